@@ -1,0 +1,3 @@
+pub mod Floor
+mod Splits
+mod Runs
