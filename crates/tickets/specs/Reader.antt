@@ -1,9 +1,10 @@
 -- What a list of words says: a ticket, or the refusal that is due.
-use Prim.Native.Nat.{ℕ, _+_}
+use Prim.Native.Nat.{ℕ, _+_, _≤_, _<_}
 use mathlib.Core.Bool.{Bool, true, cond}
 use mathlib.Core.List.{List, [], _∷_}
+use mathlib.Core.Path.{_≡_}
 use lib.Dec.{eqb}
-use lib.IntN.{ℤ}
+use lib.IntN.{ℤ, natAbs}
 use lib.ListN.{length, getD, take, drop}
 use Rattle.std.specs.declared.option.Option.{Option}
 use Rattle.std.specs.declared.option.Option.the-variants.{Some, None}
@@ -17,6 +18,7 @@ use Rattle.sides.specs.declared.Side.{Side}
 use Rattle.sides.specs.declared.Side.the-variants as S
 use Rattle.tickets.specs.Words.{kindOf, shipperOf, reservedOf, dateOf, fieldOf, signedOf}
 use Rattle.tickets.specs.Kinds.{ticketKind, ticketLength, figureAt, bodyKind, bodyNumber, within}
+use Rattle.tickets.specs.declared.kind.BodyKind.the-variants.{Volume}
 use Rattle.tickets.specs.declared.kind.TicketKind.{TicketKind}
 use Rattle.tickets.specs.declared.kind.TicketKind.the-variants as K
 use Rattle.tickets.specs.declared.reader.Check.{Check}
@@ -92,3 +94,17 @@ readsAs (Some kind) words =
 
 abbrev pub reads : List ℕ → Result Told Refusal
 reads words = cond (eqb (length words) 0) (refusedAt TicketLength 0) (readsAs (ticketKind (getD words 0 0)) words)
+
+-- ---- what is then true of a ticket that was read
+
+-- 24 hour words, each of the volume kind and within an hour's limit
+pub record SoundHours (hours : List ℕ) : Type 0 where
+  pub count : length hours ≡ 24
+  pub kinds : (k : ℕ) → k < 24 → kindOf (getD hours k 0) ≡ bodyNumber Volume
+  pub limits : (k : ℕ) → k < 24 → fieldOf (getD hours k 0) ≤ 1000000
+
+abbrev pub Sound : Told → Type 0
+Sound (MeteredTold side shipper day heat hours place) = SoundHours hours × (4000 ≤ heat) × (heat ≤ 5000) × (shipper < 16)
+Sound (PlannedTold shipper day volume) = (volume ≤ 24000000) × (shipper < 16)
+Sound (CorrectedTold side shipper month heat volume) =
+    (natAbs volume ≤ 24000000) × (0 < natAbs volume) × (4000 ≤ heat) × (heat ≤ 5000) × (shipper < 16)

@@ -1,9 +1,14 @@
 // The reader: a list of words is a ticket, or the first thing wrong with it is told.
 ghost use mathlib.Core.Path.{_≡_};
-ghost use lib.ListN.{length};
+ghost use mathlib.Core.Bool.{true};
+ghost use lib.ListN.{length, getD};
 ghost use Rattle.refusals.specs.declared.Layer.the-variants.{Words};
-ghost use Rattle.tickets.specs.Kinds.{ticketLength};
-ghost use Rattle.tickets.specs.Reader.{firstNot, passing, meteredTold, plannedTold, correctedTold, told, ticketTold, outcome, reads};
+ghost use Rattle.tickets.specs.Kinds.{ticketLength, within};
+ghost use Rattle.tickets.specs.Reader.{firstNot, passing, meteredTold, plannedTold, correctedTold, told, ticketTold, outcome, reads, Sound};
+ghost use Rattle.std.specs.Vec.{made};
+ghost use Rattle.std.specs.declared.option.Option.the-variants.{None};
+ghost use Rattle.tickets.specs.declared.kind.Figure.the-variants.{GasHeat};
+ghost use Rattle.tickets.specs.declared.reader.Check.the-variants.{Limits};
 
 use super::kind::TicketKind;
 use super::word::date_of;
@@ -25,9 +30,9 @@ pub const HOURS_PLACE: usize = 2;
 // A ticket as its words say it. The hours of a day ticket are a part of the words handed in, with the place of the
 // first in them; an hour's volume is its word's field.
 pub enum Ticket<'a> {
-    Metered { side: Side, shipper: u8, day: Day, heat: u32, hours: &'a [u32], place: usize },
+    Metered { side: Side, shipper: u8, day: Day, heat: u16, hours: &'a [u32], place: usize },
     Planned { shipper: u8, day: Day, volume: u32 },
-    Corrected { side: Side, shipper: u8, month: Month, heat: u32, volume: i32 },
+    Corrected { side: Side, shipper: u8, month: Month, heat: u16, volume: i32 },
 }
 
 fn refused(ground: Ground, place: usize) -> Refusal
@@ -69,14 +74,15 @@ fn first_failing(check: Check, kind: TicketKind, words: &[u32]) -> Option<usize>
 
 // A day's metered gas, from 26 words.
 fn metered(side: Side, words: &[u32]) -> Ticket<'_>
-    requires { ⌜ length (now words) ≡ 26 ⌝ }
+    requires whole { ⌜ length (now words) ≡ 26 ⌝ }
+    requires heat { ⌜ within GasHeat (getD (now words) 1 0) ≡ true ⌝ }
     ensures value { λ r. ⌜ ticketTold r ≡ meteredTold side (now (words .entry)) ⌝ }
 {
     Ticket::Metered {
         side,
         shipper: shipper_of(words[0]),
         day: Day(date_of(words[0])),
-        heat: field_of(words[1]),
+        heat: field_of(words[1]) as u16,
         hours: &words[HOURS_PLACE..26],
         place: HOURS_PLACE,
     }
@@ -92,21 +98,23 @@ fn planned(words: &[u32]) -> Ticket<'_>
 
 // A correction of an issued month, from 3 words.
 fn corrected(side: Side, words: &[u32]) -> Ticket<'_>
-    requires { ⌜ length (now words) ≡ 3 ⌝ }
+    requires whole { ⌜ length (now words) ≡ 3 ⌝ }
+    requires heat { ⌜ within GasHeat (getD (now words) 1 0) ≡ true ⌝ }
     ensures value { λ r. ⌜ ticketTold r ≡ correctedTold side (now (words .entry)) ⌝ }
 {
     Ticket::Corrected {
         side,
         shipper: shipper_of(words[0]),
         month: Month(date_of(words[0])),
-        heat: field_of(words[1]),
+        heat: field_of(words[1]) as u16,
         volume: signed_of(words[2]),
     }
 }
 
 // The ticket that words of their kind's length say.
 fn ticket_of(kind: TicketKind, words: &[u32]) -> Ticket<'_>
-    requires { ⌜ length (now words) ≡ ticketLength kind ⌝ }
+    requires whole { ⌜ length (now words) ≡ ticketLength kind ⌝ }
+    requires limits { ⌜ firstNot (passing Limits kind) 0 (now words) ≡ None ⌝ }
     ensures value { λ r. ⌜ ticketTold r ≡ told kind (now (words .entry)) ⌝ }
 {
     match kind {
@@ -122,6 +130,7 @@ fn ticket_of(kind: TicketKind, words: &[u32]) -> Ticket<'_>
 // limits.
 pub fn read(words: &[u32]) -> Result<Ticket<'_>, Refusal>
     ensures value { λ r. ⌜ outcome r ≡ reads (now (words .entry)) ⌝ }
+    ensures sound { λ r. ⌜ made (outcome r) Sound ⌝ }
 {
     let Some(header) = words.first() else {
         return Err(refused(Ground::TicketLength, 0));
