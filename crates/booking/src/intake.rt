@@ -35,6 +35,7 @@ pub enum Booking {
     Corrected { volume: i64 },
 }
 
+#[derive(Drop)]
 pub struct Intake {
     standard: StandardHeat,
     remainders: [Pair<u32>; 16],
