@@ -47,7 +47,7 @@ impl Intake {
         ensures standard { λ r. ⌜ r .standard .units ≡ standard .units ⌝ }
         ensures remainders { λ r. ⌜ r .remainders ≡ replicate 16 noRemainder ⌝ }
     {
-        Intake { standard, remainders: [Pair::both(0); SHIPPERS] }
+        Intake { standard, remainders: [Pair { receipts: 0, deliveries: 0 }; SHIPPERS] }
     }
 
     // Books heat on one side of a shipper.

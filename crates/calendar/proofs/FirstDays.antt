@@ -2,14 +2,10 @@
 use Prim.Native.Nat.{ℕ, zero, suc, _+_, _<_}
 use native.Mathlib.Nat.{add-zero, add-suc, zero-add, suc-add}
 use native.Mathlib.Omega.{arith}
-use mathlib.Core.Path.{_≡_, refl, sym, ap, _∙_}
+use mathlib.Core.Path.{_≡_, sym, ap, _∙_}
 use mathlib.Core.List.{List, [], _∷_}
 use lib.ListN.{getD}
-use Rattle.std.specs.declared.option.Option.{Option}
-use Rattle.std.specs.declared.option.Option.the-variants.{Some}
-use Rattle.std.proofs.shelf.Ways.{tells}
-use Rattle.calendar.specs.Gregorian.{monthLength, firstDay, firstDayTold}
-use Rattle.calendar.specs.declared.Day.{Day}
+use Rattle.calendar.specs.Gregorian.{monthLength, firstDay}
 
 abbrev pub made : ℕ → ℕ → ℕ → List ℕ
 made zero month start = []
@@ -26,6 +22,3 @@ made-from (suc n) month (suc k) h =
 pub table-rule : (n k : ℕ) → k < n → getD (made n 0 0) k 0 ≡ firstDay k
 unfolding firstDay
 table-rule n k h = made-from n 0 k h ∙ ap firstDay (zero-add k)
-
-pub told : (month entry : ℕ) → month < 1201 → entry ≡ firstDay month → _≡_ {A = Option Day} (Some (record { 0 = entry })) (firstDayTold month)
-told month entry h e = grind (arith, tells)

@@ -1,7 +1,8 @@
 // Months and days as the ticket words number them (docs/RULES.md, "Months and days"): the Gregorian rule for a
 // month's length, and the table of first days, which is that rule summed from January 2000 on.
+ghost use Prim.Native.Nat.{_≤_};
 ghost use mathlib.Core.Path.{_≡_};
-ghost use Rattle.calendar.specs.Gregorian.{leap, monthLength, firstDayTold, inMonth};
+ghost use Rattle.calendar.specs.Gregorian.{leap, monthLength, firstDay, tableMonths, firstDayTold, inMonth};
 
 mod table;
 
@@ -20,6 +21,14 @@ pub fn is_leap_year(year: u32) -> bool
     ensures value { λ r. ⌜ r ≡ leap year ⌝ }
 {
     year % 4 == 0 && (year % 100 != 0 || year % 400 == 0)
+}
+
+// The table is the rule summed: each entry is the one before it and that month's days.
+fn entry(month: u32) -> u32
+    requires { ⌜ month ≤ tableMonths ⌝ }
+    ensures value { λ r. ⌜ r ≡ firstDay month ⌝ }
+{
+    FIRST_DAYS[month as usize]
 }
 
 impl Month {
@@ -45,7 +54,7 @@ impl Month {
         ensures value { λ r. ⌜ r ≡ firstDayTold (self .0) ⌝ }
     {
         if self.0 <= MONTHS {
-            Some(Day(FIRST_DAYS[self.0 as usize]))
+            Some(Day(entry(self.0)))
         } else {
             None
         }

@@ -6,10 +6,8 @@ use mathlib.Core.List.{List, [], _∷_}
 use mathlib.Core.Path.{_≡_, refl, sym, ap, _∙_}
 use lib.ListN.{length, getD, drop}
 use Rattle.std.specs.Keys.{Total}
-use Rattle.std.specs.Orderings.{isLt}
 use Rattle.std.specs.declared.cmp.Ordering.{Ordering}
-use Rattle.std.specs.declared.option.Option.{Option}
-use Rattle.std.specs.declared.option.Option.the-variants.{Some, None}
+use Rattle.std.specs.declared.option.Option.the-variants.{Some}
 use Rattle.std.specs.Slices.{Ranks}
 use Rattle.std.specs.shelf.Bests.{FirstBest}
 use Rattle.std.proofs.shelf.Bests.{ranks-by, ranks-backwards, first-best-none, first-best-takes, first-best-keeps}
@@ -25,19 +23,16 @@ module _ {X : Type 0} {R : X → X → Ordering → Type 0} (o : Total R) (items
   ranked : Ranks (λ x y. below o y x)
   ranked = ranks-backwards (below o) (ranks-by o (λ x. x))
 
-  tested : (x y : X) (r : Ordering) (b : Bool) → R y x r → isLt r ≡ b → below o y x ≡ b
-  tested x y r b says e = ap isLt (sym (o .says y x r says)) ∙ e
-
-  module _ (i best : ℕ) (x y : X) (r : Ordering) (says : R y x r) (seen : best < i) (more : i < length items)
+  module _ (i best : ℕ) (x y : X) (seen : best < i) (more : i < length items)
     (at-i : x ≡ getD items i x) (at-best : y ≡ getD items best y) (kept : Kept i best) where
-    at-d : (d : X) (b : Bool) → isLt r ≡ b → below o (getD items best d) (getD items i d) ≡ b
+    at-d : (d : X) (b : Bool) → below o y x ≡ b → below o (getD items best d) (getD items i d) ≡ b
     at-d d b e =
         let within : best < length items = omega arith in
         ap (λ z. below o z (getD items i d)) (sym (getD-read items best y within at-best d))
         ∙ ap (below o y) (sym (getD-read items i x more at-i d))
-        ∙ tested x y r b says e
+        ∙ e
 
-    left : (d : X) (b : Bool) → isLt r ≡ b →
+    left : (d : X) (b : Bool) → below o y x ≡ b →
         cond b (greatestFrom (below o) (getD items i d) i (i + 1) (drop (i + 1) items))
         (greatestFrom (below o) (getD items best d) best (i + 1) (drop (i + 1) items))
         ≡ greatestFrom (below o) (getD items 0 d) 0 1 (drop 1 items)
@@ -47,16 +42,16 @@ module _ {X : Type 0} {R : X → X → Ordering → Type 0} (o : Total R) (items
         ∙ sym (at-drop-more (greatestFrom (below o) (getD items best d) best i) items i d more)
         ∙ kept .whole d
 
-    pub takes : isLt r ≡ true → Kept (i + 1) i
+    pub takes : below o y x ≡ true → Kept (i + 1) i
     takes e = record {
       whole = λ d. left d true e;
-      first = first-best-takes ranked items i best x y (kept .first) more at-i at-best (tested x y r true says e);
+      first = first-best-takes ranked items i best x y (kept .first) more at-i at-best e;
     }
 
-    pub keeps : isLt r ≡ false → Kept (i + 1) best
+    pub keeps : below o y x ≡ false → Kept (i + 1) best
     keeps e = record {
       whole = λ d. left d false e;
-      first = first-best-keeps ranked items i best x y (kept .first) more at-i at-best (tested x y r false says e);
+      first = first-best-keeps ranked items i best x y (kept .first) more at-i at-best e;
     }
 
   pub begins : Kept 1 0

@@ -3,6 +3,12 @@ ghost use mathlib.Core.Path.{_≡_};
 ghost use Rattle.std.specs.Keys.{Total};
 ghost use Rattle.greatest.specs.Greatest.{firstGreatest, FirstGreatest, below};
 
+fn is_below<T: Ord>(x: &T, y: &T) -> bool
+    ensures value { λ r. ⌜ ((o : Total (T·Ord .orders)) → r ≡ below o (now (x .entry)) (now (y .entry))) ⌝ }
+{
+    x.cmp(y).is_lt()
+}
+
 // The place of the first greatest item; none where there is no item.
 pub fn first_greatest<T: Ord>(items: &[T]) -> Option<usize>
     ensures value { λ r. ⌜ ((o : Total (T·Ord .orders)) → r ≡ firstGreatest (below o) (now (items .entry))) ⌝ }
@@ -13,7 +19,7 @@ pub fn first_greatest<T: Ord>(items: &[T]) -> Option<usize>
     }
     let mut best = 0;
     for i in 1..items.len() {
-        if items[best].cmp(&items[i]).is_lt() {
+        if is_below(&items[best], &items[i]) {
             best = i;
         }
     }

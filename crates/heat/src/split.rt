@@ -2,6 +2,7 @@
 ghost use Prim.Native.Nat.{_<_};
 ghost use mathlib.Core.Path.{_≡_};
 ghost use lib.IntN.{pos, _+ℤ_, _-ℤ_, _*ℤ_};
+ghost use Rattle.std.specs.Numbers.{divEuclid, remEuclid};
 ghost use Rattle.std.specs.Options.{mapped};
 ghost use Rattle.sides.specs.Sides.{sideOf, withSide};
 ghost use Rattle.heat.specs.Split.{standardUnits, splitOf, runOf, wholeRun};
@@ -37,6 +38,15 @@ impl StandardHeat {
         }
     }
 
+    // Divides heat alone.
+    fn floor(self, heat: i64) -> Split
+        ensures booked { λ r. ⌜ r .booked ≡ divEuclid heat (pos (self .units)) ⌝ }
+        ensures remainder { λ r. ⌜ pos (r .remainder) ≡ remEuclid heat (pos (self .units)) ⌝ }
+    {
+        let units = i64::from(self.units);
+        Split { booked: heat.div_euclid(units), remainder: heat.rem_euclid(units) as u32 }
+    }
+
     // Divides heat and an older remainder; a heat below zero is rounded down too.
     pub fn split(self, heat: i64, remainder: u32) -> Split
         ensures value { λ r. ⌜ r ≡ splitOf (self .units) heat remainder ⌝ }
@@ -44,9 +54,9 @@ impl StandardHeat {
         ensures below { λ r. ⌜ r .remainder < self .units ⌝ }
     {
         let units = u64::from(self.units);
-        let whole = heat.div_euclid(units as i64);
-        let rest = heat.rem_euclid(units as i64).unsigned_abs() + u64::from(remainder);
-        Split { booked: whole + (rest / units) as i64, remainder: (rest % units) as u32 }
+        let alone = self.floor(heat);
+        let rest = u64::from(alone.remainder) + u64::from(remainder);
+        Split { booked: alone.booked + (rest / units) as i64, remainder: (rest % units) as u32 }
     }
 
     // Books heat on one side of a shipper: that side's remainder takes part, and the new one is kept there.

@@ -19,13 +19,6 @@ pub struct Pair<T> {
 }
 
 impl<T: Copy> Pair<T> {
-    // The same on both sides.
-    pub fn both(value: T) -> Pair<T>
-        ensures value { λ r. ⌜ r ≡ record { receipts = value; deliveries = value } ⌝ }
-    {
-        Pair { receipts: value, deliveries: value }
-    }
-
     pub fn get(&self, side: Side) -> T
         ensures value { λ r. ⌜ r ≡ sideOf side (now (self .entry)) ⌝ }
     {

@@ -10,7 +10,7 @@ use Rattle.std.specs.shelf.Bests.{FirstBest}
 use Rattle.greatest.specs.Greatest.{below}
 use Rattle.greatest.proofs.Turns.{Kept, takes, keeps, begins, answered}
 use Rattle.greatest.proofs.first_greatest.Needs as need
-use Rattle.greatest.proofs.first_greatest.Needs.{then-is-lt, else-is-lt}
+use Rattle.greatest.proofs.first_greatest.Needs.{then-is-below, else-is-below}
 
 pub loop-i-holds : need.loop-i-holds
 loop-i-holds g c = (omega arith, λ o. begins o (c .args .items .now))
@@ -21,15 +21,15 @@ loop-i-again g c =
     let best = c .loop-i .best in
     let x = c .index-items-i .result in
     let y = c .index-items-best .result in
-    elim (c .if-is-lt .came) [
-      then-is-lt w ↦ (omega (arith, w .best-is), λ o.
+    elim (c .if-is-below .came) [
+      then-is-below w ↦ (omega (arith, w .best-is), λ o.
         subst (Kept o (c .args .items .now) (i + 1)) (sym (w .best-is))
-        (takes o (c .args .items .now) i best x y (c .cmp .result) (c .cmp .ensures) (c .loop-i .inv .0) (omega arith)
-        (c .index-items-i .is) (c .index-items-best .is) (c .loop-i .inv .1 o) (sym (c .is-lt .ensures) ∙ w .if-is-lt .taken)))
-    | else-is-lt w ↦ (omega (arith, w .best-is, c .loop-i .inv .0), λ o.
+        (takes o (c .args .items .now) i best x y (c .loop-i .inv .0) (omega arith)
+        (c .index-items-i .is) (c .index-items-best .is) (c .loop-i .inv .1 o) (sym (c .is-below .ensures .value o) ∙ w .if-is-below .taken)))
+    | else-is-below w ↦ (omega (arith, w .best-is, c .loop-i .inv .0), λ o.
         subst (Kept o (c .args .items .now) (i + 1)) (sym (w .best-is))
-        (keeps o (c .args .items .now) i best x y (c .cmp .result) (c .cmp .ensures) (c .loop-i .inv .0) (omega arith)
-        (c .index-items-i .is) (c .index-items-best .is) (c .loop-i .inv .1 o) (sym (c .is-lt .ensures) ∙ w .if-is-lt .left)))
+        (keeps o (c .args .items .now) i best x y (c .loop-i .inv .0) (omega arith)
+        (c .index-items-i .is) (c .index-items-best .is) (c .loop-i .inv .1 o) (sym (c .is-below .ensures .value o) ∙ w .if-is-below .left)))
     ]
 
 pub returns : need.returns
