@@ -33,7 +33,7 @@ agrees x y p q = grind (arith, tells, div-add-mod' x (2 ^ 28), div-add-mod' y (2
 pub peak-by-volume : (hours : List ℕ) → SoundHours hours → valueOr (firstGreatest ltb hours) 0 ≡ peakHour hours
 peak-by-volume hours sound =
     let kinds : All (λ w. kindOf w ≡ 9) hours =
-        all-from-getD (λ w. kindOf w ≡ 9) hours 0 (λ k h. sound .kinds k (omega (arith, sound .count))) in
+    all-from-getD (λ w. kindOf w ≡ 9) hours 0 (λ k h. sound .kinds k (omega (arith, sound .count))) in
     ap (λ (o : Option ℕ). valueOr o 0) (same-greatest ltb lessGas (λ w. kindOf w ≡ 9) agrees hours kinds)
 
 pub whole-day : (hours : List ℕ) → SoundHours hours → take 24 hours ≡ hours

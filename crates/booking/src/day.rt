@@ -7,7 +7,6 @@ ghost use lib.ListN.{take};
 ghost use Rattle.std.specs.Options.{valueOr};
 ghost use Rattle.greatest.specs.Greatest.{firstGreatest};
 ghost use Rattle.booking.specs.Day.{dayVolume};
-
 use greatest::first_greatest;
 use tickets::word::field_of;
 

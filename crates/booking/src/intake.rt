@@ -9,7 +9,6 @@ ghost use Rattle.tickets.specs.Reader.{reads, SoundHours};
 ghost use Rattle.booking.specs.Day.{dayVolume, peakHour};
 ghost use Rattle.booking.specs.declared.intake.Booking.the-variants.{Metered};
 ghost use Rattle.booking.specs.Intake.{noRemainder, booked, keptOn, answered, kept, bookingText};
-
 use super::day::correction_heat;
 use super::day::day_heat;
 use super::day::peak_hour;
@@ -47,7 +46,13 @@ impl Intake {
         ensures standard { λ r. ⌜ r .standard .units ≡ standard .units ⌝ }
         ensures remainders { λ r. ⌜ r .remainders ≡ replicate 16 noRemainder ⌝ }
     {
-        Intake { standard, remainders: [Pair { receipts: 0, deliveries: 0 }; SHIPPERS] }
+        Intake {
+            standard,
+            remainders: [Pair {
+                receipts: 0,
+                deliveries: 0,
+            }; SHIPPERS],
+        }
     }
 
     // Books heat on one side of a shipper.
@@ -72,7 +77,10 @@ impl Intake {
         ensures remainders { λ _. ⌜ now (self .exit) .remainders ≡ keptOn (now (self .entry) .standard .units) (now (self .entry) .remainders) side shipper (pos (dayVolume (now (hours .entry)) * heat)) ⌝ }
     {
         let volume = self.book(side, shipper, day_heat(hours, heat));
-        Booking::Metered { volume, peak: peak_hour(hours) }
+        Booking::Metered {
+            volume,
+            peak: peak_hour(hours),
+        }
     }
 
     // Takes one ticket; a refusal changes nothing.
@@ -82,9 +90,26 @@ impl Intake {
         ensures remainders { λ _. ⌜ now (self .exit) .remainders ≡ kept (now (self .entry) .standard .units) (now (self .entry) .remainders) (reads (now (words .entry))) ⌝ }
     {
         match read(words)? {
-            Ticket::Metered { side, shipper, day: _, heat, hours, place: _ } => Ok(self.meter(side, shipper, heat, hours)),
-            Ticket::Planned { shipper: _, day: _, volume } => Ok(Booking::Planned { volume }),
-            Ticket::Corrected { side, shipper, month: _, heat, volume } => {
+            Ticket::Metered {
+                side,
+                shipper,
+                day: _,
+                heat,
+                hours,
+                place: _,
+            } => Ok(self.meter(side, shipper, heat, hours)),
+            Ticket::Planned {
+                shipper: _,
+                day: _,
+                volume,
+            } => Ok(Booking::Planned { volume }),
+            Ticket::Corrected {
+                side,
+                shipper,
+                month: _,
+                heat,
+                volume,
+            } => {
                 let volume = self.book(side, shipper, correction_heat(volume, heat));
                 Ok(Booking::Corrected { volume })
             }

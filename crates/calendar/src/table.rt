@@ -1,4 +1,4 @@
-// The first day of each month, a year to a line: the form in which the day checks read the calendar.
+// The first day of each month, a year to a line (`rt fmt` would give each number a line).
 
 // Months in the table, January 2000 to December 2099.
 pub const MONTHS: u32 = 1200;

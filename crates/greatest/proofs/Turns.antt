@@ -24,7 +24,7 @@ module _ {X : Type 0} {R : X → X → Ordering → Type 0} (o : Total R) (items
   ranked = ranks-backwards (below o) (ranks-by o (λ x. x))
 
   module _ (i best : ℕ) (x y : X) (seen : best < i) (more : i < length items)
-    (at-i : x ≡ getD items i x) (at-best : y ≡ getD items best y) (kept : Kept i best) where
+      (at-i : x ≡ getD items i x) (at-best : y ≡ getD items best y) (kept : Kept i best) where
     at-d : (d : X) (b : Bool) → below o y x ≡ b → below o (getD items best d) (getD items i d) ≡ b
     at-d d b e =
         let within : best < length items = omega arith in
@@ -38,7 +38,7 @@ module _ {X : Type 0} {R : X → X → Ordering → Type 0} (o : Total R) (items
         ≡ greatestFrom (below o) (getD items 0 d) 0 1 (drop 1 items)
     left d b e =
         ap (λ t. cond t (greatestFrom (below o) (getD items i d) i (i + 1) (drop (i + 1) items))
-            (greatestFrom (below o) (getD items best d) best (i + 1) (drop (i + 1) items))) (sym (at-d d b e))
+        (greatestFrom (below o) (getD items best d) best (i + 1) (drop (i + 1) items))) (sym (at-d d b e))
         ∙ sym (at-drop-more (greatestFrom (below o) (getD items best d) best i) items i d more)
         ∙ kept .whole d
 

@@ -28,7 +28,7 @@ module _ (s : ℕ) (heats : List ℤ) (start i : ℕ) (booked : ℤ) (left : ℕ
       let now = splitOf s (getD heats i (pos 0)) left in
       let after = runOf s (drop (i + 1) heats) (now .remainder) in
       let volume : runOf s (drop i heats) left .booked ≡ now .booked +ℤ after .booked =
-          at-drop-more (λ hs. runOf s hs left .booked) heats i (pos 0) h in
+      at-drop-more (λ hs. runOf s hs left .booked) heats i (pos 0) h in
       record {
         volume = omega (arith, ints, volume, kept .volume);
         rest = sym (at-drop-more (λ hs. runOf s hs left .remainder) heats i (pos 0) h) ∙ kept .rest;
@@ -60,7 +60,7 @@ conserves s (heat ∷ heats) start h =
     let w = whole (heat +ℤ pos start) s some in
     let more = conserves s heats (now .remainder) (w .below) in
     let one : heat +ℤ pos start ≡ now .booked *ℤ pos s +ℤ pos (now .remainder) =
-        w .sum ∙ ap (λ t. now .booked *ℤ pos s +ℤ t) (w .natural) in
+    w .sum ∙ ap (λ t. now .booked *ℤ pos s +ℤ t) (w .natural) in
     record {
       sum = omega (arith, ints, one, more .sum, over-sum (now .booked) (runOf s heats (now .remainder) .booked) s);
       below = more .below;

@@ -15,15 +15,15 @@ use Rattle.heat.specs.declared.split.Split.{Split}
 use Rattle.heat.proofs.Floor.{over-sum, floors, whole, quotient-small}
 
 module _ (s : ℕ) (heat alone booked : ℤ) (m r : ℕ) (some : 0 < s) (quotient : alone ≡ divEuclid heat (pos s))
-  (rest : m ≡ natAbs (remEuclid heat (pos s))) (sum : booked ≡ alone +ℤ pos ((m + r) / s)) where
+    (rest : m ≡ natAbs (remEuclid heat (pos s))) (sum : booked ≡ alone +ℤ pos ((m + r) / s)) where
   joined : heat +ℤ pos r ≡ booked *ℤ pos s +ℤ pos ((m + r) % s)
   joined =
       let h = whole heat s some in
       let first : heat ≡ alone *ℤ pos s +ℤ pos m =
-          h .sum ∙ ap (λ q. q *ℤ pos s +ℤ remEuclid heat (pos s)) (sym quotient)
-          ∙ ap (λ t. alone *ℤ pos s +ℤ t) (h .natural ∙ ap pos (sym rest)) in
+      h .sum ∙ ap (λ q. q *ℤ pos s +ℤ remEuclid heat (pos s)) (sym quotient)
+      ∙ ap (λ t. alone *ℤ pos s +ℤ t) (h .natural ∙ ap pos (sym rest)) in
       let both : booked *ℤ pos s ≡ alone *ℤ pos s +ℤ pos ((m + r) / s) *ℤ pos s =
-          ap (λ q. q *ℤ pos s) sum ∙ over-sum alone (pos ((m + r) / s)) s in
+      ap (λ q. q *ℤ pos s) sum ∙ over-sum alone (pos ((m + r) / s)) s in
       omega (arith, ints, first, both, div-add-mod' (m + r) s)
 
   pub split-is : _≡_ {A = Split} (record { booked = booked; remainder = (m + r) % s }) (splitOf s heat r)
@@ -38,7 +38,7 @@ module _ (s : ℕ) (heat alone booked : ℤ) (m r : ℕ) (some : 0 < s) (quotien
 
 -- the sum of the two quotients in 64 bits
 module _ (s : ℕ) (heat alone : ℤ) (m r : ℕ) (least : 4000 ≤ s) (most : s ≤ 5000) (whole-heat : SFits w64 heat) (held : SFits w64 alone)
-  (quotient : alone ≡ divEuclid heat (pos s)) (rest : m ≡ natAbs (remEuclid heat (pos s))) (few : r < 2 ^ 32) where
+    (quotient : alone ≡ divEuclid heat (pos s)) (rest : m ≡ natAbs (remEuclid heat (pos s))) (few : r < 2 ^ 32) where
   small : (m + r) / s < 2 ^ 40
   small = omega (arith, rest, whole heat s (omega arith) .below, div-le-self (m + r) s)
 

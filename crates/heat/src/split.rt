@@ -6,7 +6,6 @@ ghost use Rattle.std.specs.Numbers.{divEuclid, remEuclid};
 ghost use Rattle.std.specs.Options.{mapped};
 ghost use Rattle.sides.specs.Sides.{sideOf, withSide};
 ghost use Rattle.heat.specs.Split.{standardUnits, splitOf, runOf, wholeRun};
-
 use super::standard::LEAST_STANDARD;
 use super::standard::MOST_STANDARD;
 use super::standard::StandardHeat;
@@ -44,7 +43,10 @@ impl StandardHeat {
         ensures remainder { λ r. ⌜ pos (r .remainder) ≡ remEuclid heat (pos (self .units)) ⌝ }
     {
         let units = i64::from(self.units);
-        Split { booked: heat.div_euclid(units), remainder: heat.rem_euclid(units) as u32 }
+        Split {
+            booked: heat.div_euclid(units),
+            remainder: heat.rem_euclid(units) as u32,
+        }
     }
 
     // Divides heat and an older remainder; a heat below zero is rounded down too.
@@ -56,7 +58,10 @@ impl StandardHeat {
         let units = u64::from(self.units);
         let alone = self.floor(heat);
         let rest = u64::from(alone.remainder) + u64::from(remainder);
-        Split { booked: alone.booked + (rest / units) as i64, remainder: (rest % units) as u32 }
+        Split {
+            booked: alone.booked + (rest / units) as i64,
+            remainder: (rest % units) as u32,
+        }
     }
 
     // Books heat on one side of a shipper: that side's remainder takes part, and the new one is kept there.
@@ -82,6 +87,9 @@ impl StandardHeat {
             booked += i128::from(split.booked);
             left = split.remainder;
         }
-        Run { booked, remainder: left }
+        Run {
+            booked,
+            remainder: left,
+        }
     }
 }

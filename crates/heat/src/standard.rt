@@ -3,6 +3,7 @@ ghost use Prim.Native.Nat.{_≤_};
 
 // The limits of the standard heat, in 10 kJ per m³.
 pub const LEAST_STANDARD: u32 = 4000;
+
 pub const MOST_STANDARD: u32 = 5000;
 
 // The heat of one standard m³, in units of 10 kJ.

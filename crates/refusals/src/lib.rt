@@ -3,7 +3,6 @@ ghost use Prim.Native.Nat.{ℕ};
 ghost use mathlib.Core.Path.{_≡_};
 ghost use Rattle.refusals.specs.Grounds.{groundNumber, layerName, refusalText};
 ghost use Rattle.std.specs.declared.option.Option.the-variants.{Some};
-
 use std::fmt;
 
 // Why a call is refused, with the number that the rules give it. Of several that are due the lowest is told.

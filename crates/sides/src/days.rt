@@ -15,14 +15,20 @@ impl DayMarks {
     pub fn none() -> DayMarks
         ensures value { λ r. ⌜ r .marks ≡ replicate 31 false ⌝ }
     {
-        DayMarks { marks: [false; LONGEST_MONTH] }
+        DayMarks {
+            marks: [false; LONGEST_MONTH],
+        }
     }
 
     // Whether the day is marked; a day that no month has never is.
     pub fn has(&self, day: usize) -> bool
         ensures value { λ r. ⌜ r ≡ getD (now (self .entry) .marks) day false ⌝ }
     {
-        if day < LONGEST_MONTH { self.marks[day] } else { false }
+        if day < LONGEST_MONTH {
+            self.marks[day]
+        } else {
+            false
+        }
     }
 
     // Marks the day; a day that no month has changes nothing.

@@ -50,13 +50,14 @@ shipper-below : (word : ℕ) → shipperOf word < 16
 shipper-below word = mod-below (word / 2 ^ 24) 16 (omega arith)
 
 module _ (kind : TicketKind) (words : List ℕ) (whole : length words ≡ ticketLength kind)
-  (shape : firstNot (passing Shape kind) 0 words ≡ None) (limits : firstNot (passing Limits kind) 0 words ≡ None) where
+    (shape : firstNot (passing Shape kind) 0 words ≡ None) (limits : firstNot (passing Limits kind) 0 words ≡ None) where
   at-place : (k : ℕ) → k < ticketLength kind → (passing Shape kind k (getD words k 0) ≡ true) × (passing Limits kind k (getD words k 0) ≡ true)
   at-place k h =
       let within : k < length words = omega arith in
-      let same : 0 + k ≡ k = omega arith in
-      (sym (ap (λ n. passing Shape kind n (getD words k 0)) same) ∙ passed (passing Shape kind) 0 words shape k within,
-      sym (ap (λ n. passing Limits kind n (getD words k 0)) same) ∙ passed (passing Limits kind) 0 words limits k within)
+      let same : 0 + k ≡ k = omega arith in (
+        sym (ap (λ n. passing Shape kind n (getD words k 0)) same) ∙ passed (passing Shape kind) 0 words shape k within,
+        sym (ap (λ n. passing Limits kind n (getD words k 0)) same) ∙ passed (passing Limits kind) 0 words limits k within,
+      )
 
 hour-at : (words : List ℕ) (k : ℕ) → k < 24 → getD (take 24 (drop 2 words)) k 0 ≡ getD words (2 + k) 0
 hour-at words k h = getD-take 24 (drop 2 words) k 0 h ∙ getD-drop 2 words k 0
@@ -69,12 +70,16 @@ metered-sound : (words : List ℕ) → length words ≡ 26 → Passed Receipts w
 metered-sound words whole all =
     let heat = all 1 (omega arith) .1 in
     let hour : (k : ℕ) → k < 24 → (kindOf (getD words (2 + k) 0) ≡ 9) × (fieldOf (getD words (2 + k) 0) ≤ 1000000) =
-        λ k h. let at : 2 + k < 26 = omega arith in let a = all (2 + k) at in (grind (arith, tells), grind (arith, tells)) in
-    (record {
-      count = simp (length-take, length-drop) (omega arith);
-      kinds = λ k h. ap kindOf (hour-at words k h) ∙ hour k h .0;
-      limits = λ k h. subst (λ (w : ℕ). fieldOf w ≤ 1000000) (sym (hour-at words k h)) (hour k h .1);
-    }, grind (arith, tells), grind (arith, tells), shipper-below (getD words 0 0))
+    λ k h. let at : 2 + k < 26 = omega arith in let a = all (2 + k) at in (grind (arith, tells), grind (arith, tells)) in (
+      record {
+        count = simp (length-take, length-drop) (omega arith);
+        kinds = λ k h. ap kindOf (hour-at words k h) ∙ hour k h .0;
+        limits = λ k h. subst (λ (w : ℕ). fieldOf w ≤ 1000000) (sym (hour-at words k h)) (hour k h .1);
+      },
+      grind (arith, tells),
+      grind (arith, tells),
+      shipper-below (getD words 0 0),
+    )
 
 planned-sound : (words : List ℕ) → Passed Plan words → Sound (told Plan words)
 planned-sound words all = let plan = all 1 (omega arith) .1 in (grind (arith, tells), shipper-below (getD words 0 0))

@@ -1,7 +1,6 @@
 // The kinds of tickets and of body words, with their numbers, and which figure stands where.
 ghost use mathlib.Core.Path.{_≡_};
 ghost use Rattle.tickets.specs.Kinds.{ticketKind, ticketLength, figureAt, bodyKind, bodyNumber, within};
-
 use super::word::field_of;
 use super::word::kind_of;
 use super::word::signed_of;
@@ -43,9 +42,13 @@ pub enum Figure {
 }
 
 pub const LEAST_HEAT: u32 = 4000;
+
 pub const MOST_HEAT: u32 = 5000;
+
 pub const MOST_HOUR: u32 = 1_000_000;
+
 pub const MOST_PLAN: u32 = 24_000_000;
+
 pub const MOST_CORRECTION: u32 = 24_000_000;
 
 impl TicketKind {
@@ -80,11 +83,19 @@ impl TicketKind {
     {
         match self {
             TicketKind::Receipts | TicketKind::Deliveries => {
-                if index == 1 { Figure::GasHeat } else { Figure::HourVolume }
+                if index == 1 {
+                    Figure::GasHeat
+                } else {
+                    Figure::HourVolume
+                }
             }
             TicketKind::Plan => Figure::PlanVolume,
             TicketKind::ReceiptsCorrection | TicketKind::DeliveriesCorrection => {
-                if index == 1 { Figure::GasHeat } else { Figure::CorrectionVolume }
+                if index == 1 {
+                    Figure::GasHeat
+                } else {
+                    Figure::CorrectionVolume
+                }
             }
         }
     }

@@ -9,7 +9,6 @@ ghost use Rattle.std.specs.Vec.{made};
 ghost use Rattle.std.specs.declared.option.Option.the-variants.{None};
 ghost use Rattle.tickets.specs.declared.kind.Figure.the-variants.{GasHeat};
 ghost use Rattle.tickets.specs.declared.reader.Check.the-variants.{Limits};
-
 use super::kind::TicketKind;
 use super::word::date_of;
 use super::word::field_of;
@@ -30,15 +29,36 @@ pub const HOURS_PLACE: usize = 2;
 // A ticket as its words say it. The hours of a day ticket are a part of the words handed in, with the place of the
 // first in them; an hour's volume is its word's field.
 pub enum Ticket<'a> {
-    Metered { side: Side, shipper: u8, day: Day, heat: u16, hours: &'a [u32], place: usize },
-    Planned { shipper: u8, day: Day, volume: u32 },
-    Corrected { side: Side, shipper: u8, month: Month, heat: u16, volume: i32 },
+    Metered {
+        side: Side,
+        shipper: u8,
+        day: Day,
+        heat: u16,
+        hours: &'a [u32],
+        place: usize,
+    },
+    Planned {
+        shipper: u8,
+        day: Day,
+        volume: u32,
+    },
+    Corrected {
+        side: Side,
+        shipper: u8,
+        month: Month,
+        heat: u16,
+        volume: i32,
+    },
 }
 
 fn refused(ground: Ground, place: usize) -> Refusal
     ensures value { λ r. ⌜ r ≡ record { ground = ground; layer = Words; place = place } ⌝ }
 {
-    Refusal { ground, layer: Layer::Words, place: place as u64 }
+    Refusal {
+        ground,
+        layer: Layer::Words,
+        place: place as u64,
+    }
 }
 
 // The two tests that each word of a ticket has to pass.
@@ -64,8 +84,8 @@ fn passes(check: Check, kind: TicketKind, index: usize, word: u32) -> bool
 fn first_failing(check: Check, kind: TicketKind, words: &[u32]) -> Option<usize>
     ensures value { λ r. ⌜ r ≡ firstNot (passing check kind) 0 (now (words .entry)) ⌝ }
 {
-    for (i, word) in words.iter().enumerate() {
-        if !passes(check, kind, i, *word) {
+    for i in 0..words.len() {
+        if !passes(check, kind, i, words[i]) {
             return Some(i);
         }
     }
@@ -93,7 +113,11 @@ fn planned(words: &[u32]) -> Ticket<'_>
     requires { ⌜ length (now words) ≡ 2 ⌝ }
     ensures value { λ r. ⌜ ticketTold r ≡ plannedTold (now (words .entry)) ⌝ }
 {
-    Ticket::Planned { shipper: shipper_of(words[0]), day: Day(date_of(words[0])), volume: field_of(words[1]) }
+    Ticket::Planned {
+        shipper: shipper_of(words[0]),
+        day: Day(date_of(words[0])),
+        volume: field_of(words[1]),
+    }
 }
 
 // A correction of an issued month, from 3 words.

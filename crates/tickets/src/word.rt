@@ -42,5 +42,9 @@ pub fn signed_of(word: u32) -> i32
     ensures value { λ r. ⌜ r ≡ signedOf word ⌝ }
 {
     let field = field_of(word) as i32;
-    if field < 1 << 27 { field } else { field - (1 << 28) }
+    if field < 1 << 27 {
+        field
+    } else {
+        field - (1 << 28)
+    }
 }

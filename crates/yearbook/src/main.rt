@@ -42,7 +42,11 @@ fn read_words(words: &mut Vec<u32>, line: &[u8]) -> Result<bool, AllocError> {
             start = i + 1;
         }
     }
-    if start < line.len() { append_word(words, &line[start..line.len()]) } else { Ok(true) }
+    if start < line.len() {
+        append_word(words, &line[start..line.len()])
+    } else {
+        Ok(true)
+    }
 }
 
 // A line without the line feed, or carriage return and line feed, that ends it.
@@ -55,9 +59,18 @@ fn without_ending(line: &[u8]) -> &[u8] {
 }
 
 // Answers one line.
-fn answer(intake: &mut Intake, words: &mut Vec<u32>, line: &[u8], number: u64, out: &mut impl Write) -> io::Result<()> {
+fn answer(
+    intake: &mut Intake,
+    words: &mut Vec<u32>,
+    line: &[u8],
+    number: u64,
+    out: &mut impl Write,
+) -> io::Result<()> {
     if !read_words(words, without_ending(line))? {
-        return writeln!(out, "line {number}: expected 32-bit words in hexadecimal, with spaces between");
+        return writeln!(
+            out,
+            "line {number}: expected 32-bit words in hexadecimal, with spaces between"
+        );
     }
     match intake.take(words.as_slice()) {
         Ok(booking) => writeln!(out, "{booking}"),

@@ -22,14 +22,20 @@ loop-i-again g c =
     let x = c .index-items-i .result in
     let y = c .index-items-best .result in
     elim (c .if-is-below .came) [
-      then-is-below w ↦ (omega (arith, w .best-is), λ o.
-        subst (Kept o (c .args .items .now) (i + 1)) (sym (w .best-is))
-        (takes o (c .args .items .now) i best x y (c .loop-i .inv .0) (omega arith)
-        (c .index-items-i .is) (c .index-items-best .is) (c .loop-i .inv .1 o) (sym (c .is-below .ensures .value o) ∙ w .if-is-below .taken)))
-    | else-is-below w ↦ (omega (arith, w .best-is, c .loop-i .inv .0), λ o.
-        subst (Kept o (c .args .items .now) (i + 1)) (sym (w .best-is))
-        (keeps o (c .args .items .now) i best x y (c .loop-i .inv .0) (omega arith)
-        (c .index-items-i .is) (c .index-items-best .is) (c .loop-i .inv .1 o) (sym (c .is-below .ensures .value o) ∙ w .if-is-below .left)))
+      | then-is-below w ↦ (
+        omega (arith, w .best-is),
+        λ o.
+            subst (Kept o (c .args .items .now) (i + 1)) (sym (w .best-is))
+            (takes o (c .args .items .now) i best x y (c .loop-i .inv .0) (omega arith)
+            (c .index-items-i .is) (c .index-items-best .is) (c .loop-i .inv .1 o) (sym (c .is-below .ensures .value o) ∙ w .if-is-below .taken)),
+      )
+      | else-is-below w ↦ (
+        omega (arith, w .best-is, c .loop-i .inv .0),
+        λ o.
+            subst (Kept o (c .args .items .now) (i + 1)) (sym (w .best-is))
+            (keeps o (c .args .items .now) i best x y (c .loop-i .inv .0) (omega arith)
+            (c .index-items-i .is) (c .index-items-best .is) (c .loop-i .inv .1 o) (sym (c .is-below .ensures .value o) ∙ w .if-is-below .left)),
+      )
     ]
 
 pub returns : need.returns

@@ -14,9 +14,9 @@ factors : (c : need.After-from-2) →
     toZ w64 (ofZ w64 (c .from .result)) *ℤ toZ w64 (ofZ w64 (c .from-2 .result)) ≡ c .args .volume *ℤ pos (c .args .heat)
 factors c =
     let volume : toZ w64 (ofZ w64 (c .from .result)) ≡ c .args .volume =
-        toZ-ofZ w64 (c .from .result) (record { sfits = c .from .ok }) ∙ c .from .ensures ∙ toZ-ofZ w32 (c .args .volume) (c .fits .volume) in
+    toZ-ofZ w64 (c .from .result) (record { sfits = c .from .ok }) ∙ c .from .ensures ∙ toZ-ofZ w32 (c .args .volume) (c .fits .volume) in
     let heat : toZ w64 (ofZ w64 (c .from-2 .result)) ≡ pos (c .args .heat) =
-        toZ-ofZ w64 (c .from-2 .result) (record { sfits = c .from-2 .ok }) ∙ c .from-2 .ensures in
+    toZ-ofZ w64 (c .from-2 .result) (record { sfits = c .from-2 .ok }) ∙ c .from-2 .ensures in
     λ i. volume i *ℤ heat i
 
 fits : (c : need.After-from-2) → SFits w64 (c .args .volume *ℤ pos (c .args .heat))

@@ -23,9 +23,10 @@ loop-i-again c =
     let i = c .loop-i .i in
     let hours = c .args .hours .now in
     let within : i < length hours = omega (arith, c .min-i-end .ensures) in
-    let small : fieldOf (getD hours i 0) < 2 ^ 28 = mod-below (getD hours i 0) (2 ^ 28) (omega arith) in
-    (omega (arith, c .loop-i .inv .0, c .from-volume .ensures, c .field-of .ensures .value, sumBy-more fieldOf hours i 0 within),
-    omega (arith, c .loop-i .inv .1, c .from-volume .ensures, c .field-of .ensures .value, small))
+    let small : fieldOf (getD hours i 0) < 2 ^ 28 = mod-below (getD hours i 0) (2 ^ 28) (omega arith) in (
+      omega (arith, c .loop-i .inv .0, c .from-volume .ensures, c .field-of .ensures .value, sumBy-more fieldOf hours i 0 within),
+      omega (arith, c .loop-i .inv .1, c .from-volume .ensures, c .field-of .ensures .value, small),
+    )
 
 pub returns : need.returns
 returns c =

@@ -17,12 +17,13 @@ loop-heat-again c =
     let heat = getD (c .args .heats .now) i (pos 0) in
     let held : SFits w64 heat = search needs in
     let split : c .split-split .result ≡ splitOf (c .args .self .units) heat (c .loop-heat .left) =
-        c .split-split .ensures .value ∙ ap (λ z. splitOf (c .args .self .units) z (c .loop-heat .left)) (toZ-ofZ w64 heat held) in
-    let small : SFits w64 (c .split-split .result .booked) = search needs in
-    (omega (arith, ints, small, c .from-booked .ensures, c .loop-heat .inv .0),
-    kept-more (c .args .self .units) (c .args .heats .now) (c .args .remainder) i _ (c .loop-heat .left) (c .loop-heat .inv .1)
-    (c .split-split .result) _ (c .loop-heat-test .taken) split
-    (omega (arith, ints, small, c .from-booked .ensures, c .loop-heat .inv .0)))
+    c .split-split .ensures .value ∙ ap (λ z. splitOf (c .args .self .units) z (c .loop-heat .left)) (toZ-ofZ w64 heat held) in
+    let small : SFits w64 (c .split-split .result .booked) = search needs in (
+      omega (arith, ints, small, c .from-booked .ensures, c .loop-heat .inv .0),
+      kept-more (c .args .self .units) (c .args .heats .now) (c .args .remainder) i _ (c .loop-heat .left) (c .loop-heat .inv .1)
+          (c .split-split .result) _ (c .loop-heat-test .taken) split
+          (omega (arith, ints, small, c .from-booked .ensures, c .loop-heat .inv .0)),
+    )
 
 pub returns : need.returns
 returns c =

@@ -36,9 +36,9 @@ returns c =
     let held : SFits w64 alone = search needs in
     let quotient : alone ≡ divEuclid heat (pos u) = c .floor-alone .ensures .booked ∙ (λ i. divEuclid (same i) (pos (sym units i))) in
     let rest : m ≡ natAbs (remEuclid heat (pos u)) =
-        c .from .ensures ∙ ap natAbs (c .floor-alone .ensures .remainder ∙ (λ i. remEuclid (same i) (pos (sym units i)))) in
+    c .from .ensures ∙ ap natAbs (c .floor-alone .ensures .remainder ∙ (λ i. remEuclid (same i) (pos (sym units i)))) in
     let sum = bits-are u heat alone m r (omega (arith, units, c .args .self .least)) (omega (arith, units, c .args .self .most))
-        (c .fits .heat) held quotient rest (omega (arith, c .from-2 .ensures, c .fits .remainder .fits)) in
+    (c .fits .heat) held quotient rest (omega (arith, c .from-2 .ensures, c .fits .remainder .fits)) in
     let some : 0 < u = omega (arith, units, c .args .self .least) in
     record {
       value = split-is u heat alone _ m r some quotient rest sum ∙ (λ i. splitOf (units i) heat (c .from-2 .ensures i));

@@ -1,0 +1,5 @@
+// Tests over the layers together: the worked figures of docs/RULES.md, and damaged words.
+#[cfg(test)]
+mod damaged;
+#[cfg(test)]
+mod figures;
