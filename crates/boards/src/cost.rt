@@ -18,7 +18,9 @@ use refusals::Refusal;
 
 // The most that each figure of the evidence may be: the cost in yen, the volume in m³, the base in sen per m³.
 pub const MOST_COST: u64 = 10_000_000_000_000;
+
 pub const MOST_VOLUME: u64 = 10_000_000_000;
+
 pub const MOST_CUSTOMS: u64 = 100_000;
 
 // The cost of a month's gas in yen, the volume produced for it in m³, and the customs base in sen per m³.

@@ -18,6 +18,7 @@ use refusals::Refusal;
 
 // The most that each figure of the evidence may be: prices and tax in sen per m³, the share in percent.
 pub const MOST_SEN: u64 = 100_000;
+
 pub const MOST_SHARE: u64 = 100;
 
 // The customs price of LNG, that of LPG, and the tax, in sen per m³, and the LNG share in percent.

@@ -4,6 +4,7 @@ ghost use Rattle.boards.specs.Rules.{percentPrice};
 
 // Of a base, in percent.
 pub const LOW_PERCENT: u8 = 70;
+
 pub const HIGH_PERCENT: u8 = 130;
 
 pub fn percent_price(base: u32, percent: u8, manufacturing: u16) -> u64

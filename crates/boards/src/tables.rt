@@ -14,6 +14,7 @@ use refusals::Refusal;
 
 // Shippers of a board, and places of a year.
 pub const SHIPPERS: u32 = 16;
+
 pub const PLACES: u32 = 12;
 
 fn refused(ground: Ground, place: u32) -> Refusal
@@ -31,7 +32,9 @@ impl PriceTable {
     pub fn new() -> PriceTable
         ensures held { λ r. ⌜ ((s p : ℕ) → tableHeld r s p ≡ None) ⌝ }
     {
-        PriceTable { prices: [None; 192] }
+        PriceTable {
+            prices: [None; 192],
+        }
     }
 
     pub fn get(&self, shipper: u32, place: u32) -> Option<Prices>

@@ -31,10 +31,10 @@ module _ {E : Type 0} (held₀ : ℕ → ℕ → Option PricesTold) (judged₀ :
         ((s : ℕ) (e : E) → judged′ s e ≡ judged s e) → Kept held′ judged′ (i + 1)
     kept-more held′ judged′ request h is after same =
         let here : held′ ≡ heldAfter (request .shipper) (request .place) held (judged₀ (request .shipper) (request .evidence)) =
-            λ j s p. (after s p ∙ ap (λ o. heldAfter (request .shipper) (request .place) held o s p) (kept .rule (request .shipper) (request .evidence))) j in
+        λ j s p. (after s p ∙ ap (λ o. heldAfter (request .shipper) (request .place) held o s p) (kept .rule (request .shipper) (request .evidence))) j in
         let next : heldThrough held judged₀ (drop i requests) ≡ heldThrough held judged₀ (request ∷ drop (i + 1) requests) =
-            at-drop-more (heldThrough held judged₀) requests i request h
-            ∙ ap (λ r. heldThrough held judged₀ (r ∷ drop (i + 1) requests)) (sym is) in
+        at-drop-more (heldThrough held judged₀) requests i request h
+        ∙ ap (λ r. heldThrough held judged₀ (r ∷ drop (i + 1) requests)) (sym is) in
         record {
           through = ap (λ hd. heldThrough hd judged₀ (drop (i + 1) requests)) here ∙ sym next ∙ kept .through;
           rule = λ s e. same s e ∙ kept .rule s e;

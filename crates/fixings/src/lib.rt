@@ -27,7 +27,12 @@ pub fn ask_only<B: Asking>(board: &mut B, shipper: u32, place: u32) -> Option<Pr
 }
 
 // Fixes prices, and asks for them: they are those that the evidence gives.
-pub fn fix_and_ask<B: Fixing>(board: &mut B, shipper: u32, place: u32, evidence: B::Evidence) -> Result<Option<Prices>, Refusal>
+pub fn fix_and_ask<B: Fixing>(
+    board: &mut B,
+    shipper: u32,
+    place: u32,
+    evidence: B::Evidence,
+) -> Result<Option<Prices>, Refusal>
     ensures value { λ r. ⌜ answerTold r ≡ fixedPrices (fixBar shipper place (B·Asking .held (now (board .entry)) shipper place) (judged (now (board .entry)) shipper evidence)) (judged (now (board .entry)) shipper evidence) ⌝ }
     ensures held { λ _. ⌜ ((s p : ℕ) → B·Asking .held (now (board .exit)) s p ≡ heldAfter shipper place (B·Asking .held (now (board .entry))) (judged (now (board .entry)) shipper evidence) s p) ⌝ }
 {

@@ -1,7 +1,10 @@
 -- What a board holds by value, and what fixing a price does.
 use Prim.Native.Nat.{ℕ}
 use mathlib.Core.Bool.{Bool, true, false, cond, _&&_}
+use mathlib.Core.List.{List, _++_}
+use lib.Chars.{codes}
 use lib.Dec.{eqb, leb, ltb}
+use Rattle.std.specs.Written.{decimal}
 use Rattle.std.specs.declared.option.Option.{Option}
 use Rattle.std.specs.declared.option.Option.the-variants.{Some, None}
 use Rattle.std.specs.declared.result.Result.{Result}
@@ -28,6 +31,10 @@ inRange price = leb 1 price && leb price 100000
 abbrev pub pricesOf : ℕ → ℕ → ℕ → Option PricesTold
 pricesOf low plain high =
     cond (inRange low && inRange plain && inRange high) (Some (record { low = low; plain = plain; high = high })) None
+
+-- low, plain and high, with one space between
+abbrev pub pricesText : Prices → List ℕ
+pricesText prices = decimal (prices .low) ++ (codes " " ++ (decimal (prices .plain) ++ (codes " " ++ decimal (prices .high))))
 
 abbrev pub onBoard : Ground → ℕ → Option Refusal
 onBoard ground place = Some (record { ground = ground; layer = Board; place = place })

@@ -4,13 +4,13 @@ ghost use Prim.Native.Nat.{ℕ, _≤_};
 ghost use mathlib.Core.Path.{_≡_};
 ghost use Rattle.std.specs.Options.{mapped};
 ghost use Rattle.std.specs.declared.option.Option.{Option};
-ghost use Rattle.std.specs.declared.option.Option.the-variants.{None};
-ghost use Rattle.prices.specs.Board.{PricesTold, pricesTold, inRange, pricesOf, fixBar, ruling, heldAfter};
-
+ghost use Rattle.std.specs.declared.option.Option.the-variants.{Some, None};
+ghost use Rattle.prices.specs.Board.{PricesTold, pricesTold, inRange, pricesOf, pricesText, fixBar, ruling, heldAfter};
 use super::price::LEAST_PRICE;
 use super::price::MOST_PRICE;
 use super::price::Prices;
 use refusals::Refusal;
+use std::fmt;
 
 fn in_range(price: u64) -> bool
     ensures value { λ r. ⌜ r ≡ inRange price ⌝ }
@@ -32,6 +32,17 @@ impl Prices {
         } else {
             None
         }
+    }
+}
+
+pub impl fmt::Display for Prices as PricesDisplay {
+    ghost shown = { λ prices. Some (pricesText prices) };
+
+    fn fmt<W: fmt::Write>(&self, f: &mut fmt::Formatter<W>) -> fmt::Result {
+        let low = self.low;
+        let plain = self.plain;
+        let high = self.high;
+        write!(f, "{low} {plain} {high}")
     }
 }
 

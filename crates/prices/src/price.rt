@@ -3,6 +3,7 @@ ghost use Prim.Native.Nat.{_≤_};
 
 // The limits of a price, in sen per m³.
 pub const LEAST_PRICE: u64 = 1;
+
 pub const MOST_PRICE: u64 = 100_000;
 
 #[derive(Clone, Copy)]

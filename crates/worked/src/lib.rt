@@ -3,3 +3,5 @@
 mod damaged;
 #[cfg(test)]
 mod figures;
+#[cfg(test)]
+mod priced;

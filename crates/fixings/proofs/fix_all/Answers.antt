@@ -18,7 +18,7 @@ returns g c =
     let held = g .B·Asking .held (c .args .board .now) in
     let judged = g .B·Fixing .judged (c .args .board .now) in
     let all = kept-all held judged (c .args .requests .now) (g .B·Asking .held (c .loop-request .board)) (g .B·Fixing .judged (c .loop-request .board))
-        (c .loop-request .request-index) (c .loop-request .inv) (c .loop-request-test .left) in
+    (c .loop-request .request-index) (c .loop-request .inv) (c .loop-request-test .left) in
     record {
       held = all;
       kept = λ s p some. all s p ∙ stays-through held judged (c .args .requests .now) s p some;
