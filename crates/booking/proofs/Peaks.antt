@@ -1,7 +1,6 @@
 -- A day's hours: they are 24, and the greatest word stands where the greatest volume does, since all have one kind.
 use Prim.Native.Nat.{ℕ, _^_}
 use native.Mathlib.Omega.{arith}
-use mathlib.Core.Bool.{Bool}
 use mathlib.Core.List.{List, [], _∷_}
 use mathlib.Core.Path.{_≡_, ap}
 use lib.Dec.{ltb}

@@ -1,5 +1,5 @@
 -- A 32-bit volume times a 16-bit heat fits 64 bits.
-use Prim.Native.Nat.{ℕ, suc, _*_, _^_, _<_}
+use Prim.Native.Nat.{ℕ, suc, _^_, _<_}
 use native.Mathlib.Omega.{arith}
 use lib.IntN.{ℤ, pos, negsuc, _*ℤ_}
 use mir.Syntax.{w32, w64}

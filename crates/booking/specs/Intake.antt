@@ -1,6 +1,6 @@
 -- What the intake answers to a read ticket, and the remainders that it keeps then.
 use Prim.Native.Nat.{ℕ, _*_}
-use mathlib.Core.List.{List, [], _∷_, _++_}
+use mathlib.Core.List.{List, _++_}
 use lib.Chars.{codes}
 use lib.IntN.{ℤ, pos, _*ℤ_}
 use lib.ListN.{getD, set}

@@ -1,5 +1,5 @@
 // Fields of text into figures (docs/TICKETS.md, "As text"), on the bytes where they lie.
-ghost use Prim.Native.Nat.{ℕ, _≤_};
+ghost use Prim.Native.Nat.{_≤_};
 ghost use mathlib.Core.Path.{_≡_};
 ghost use Rattle.std.specs.Options.{Cases};
 ghost use Rattle.fields.specs.Numbers.{digitOf, withDigit, numberOf};

@@ -1,9 +1,9 @@
 -- Floor division of an integer by a positive number: it is the one quotient whose remainder lies below the divisor.
 use Prim.Native.Nat.{ℕ, zero, suc, _+_, _-_, _*_, _/_, _%_, _^_, _≤_, _<_}
-use native.Mathlib.Nat.{mul-comm, add-mul, zero-mul, suc-mul, mul-le-mul-left}
+use native.Mathlib.Nat.{add-mul, zero-mul, suc-mul, mul-le-mul-left}
 use native.Mathlib.Omega.{arith}
-use mathlib.Core.Path.{_≡_, refl, sym, ap, subst, _∙_}
-use lib.IntN.{ℤ, pos, negsuc, negℤ, natAbs, _+ℤ_, _-ℤ_, _*ℤ_}
+use mathlib.Core.Path.{_≡_, refl, sym, ap, subst}
+use lib.IntN.{ℤ, pos, negsuc, natAbs, _+ℤ_, _*ℤ_}
 use mir.Syntax.{w64}
 use mir.Val.{SFits}
 use borrow.Author.Differences.{ints, up, down}

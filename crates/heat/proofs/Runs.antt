@@ -1,12 +1,11 @@
 -- A run of bookings: its loop, and that its volumes telescope to the whole heat divided once.
-use Prim.Native.Nat.{ℕ, _+_, _*_, _^_, _<_, _≤_}
+use Prim.Native.Nat.{ℕ, _+_, _<_, _≤_}
 use native.Mathlib.Omega.{arith}
 use mathlib.Core.List.{List, [], _∷_}
 use mathlib.Core.Path.{_≡_, refl, sym, ap, subst, _∙_}
 use lib.IntN.{ℤ, pos, natAbs, _+ℤ_, _*ℤ_}
 use lib.ListN.{length, getD, drop}
 use borrow.Author.Differences.{ints}
-use Rattle.std.specs.Numbers.{divEuclid, remEuclid}
 use Rattle.std.proofs.shelf.Lists.{at-drop-more, at-drop-all}
 use Rattle.heat.specs.Split.{splitOf, runOf, wholeRun, total}
 use Rattle.heat.specs.declared.split.Run.{Run}

@@ -1,6 +1,6 @@
 -- What a board holds by value, and what fixing a price does.
 use Prim.Native.Nat.{ℕ}
-use mathlib.Core.Bool.{Bool, true, false, cond, _&&_}
+use mathlib.Core.Bool.{Bool, cond, _&&_}
 use mathlib.Core.List.{List, _++_}
 use lib.Chars.{codes}
 use lib.Dec.{eqb, leb, ltb}

@@ -1,6 +1,6 @@
 -- The number of each ground in the rules, and a refusal's text.
 use Prim.Native.Nat.{ℕ}
-use mathlib.Core.List.{List, [], _∷_, _++_}
+use mathlib.Core.List.{List, _++_}
 use lib.Chars.{codes}
 use Rattle.std.specs.Written.{decimal}
 use Rattle.refusals.specs.declared.Ground.{Ground}

@@ -1,5 +1,4 @@
 // The one type of refusal (docs/REFUSALS.md): a ground, the layer that found it, and the place there.
-ghost use Prim.Native.Nat.{ℕ};
 ghost use mathlib.Core.Path.{_≡_};
 ghost use Rattle.refusals.specs.Grounds.{groundNumber, layerName, refusalText};
 ghost use Rattle.std.specs.declared.option.Option.the-variants.{Some};

@@ -1,6 +1,6 @@
 -- A ticket that was read has passed both tests at each of its words.
-use Prim.Native.Nat.{ℕ, zero, suc, _+_, _/_, _%_, _^_, _<_, _≤_}
-use native.Mathlib.Nat.{add-zero, add-suc, suc-add}
+use Prim.Native.Nat.{ℕ, zero, suc, _+_, _/_, _^_, _<_, _≤_}
+use native.Mathlib.Nat.{add-zero}
 use native.Mathlib.Omega.{arith}
 use mathlib.Core.Bool.{Bool, true, false, cond}
 use mathlib.Core.List.{List, [], _∷_}
@@ -17,7 +17,7 @@ use Rattle.std.specs.declared.option.Option.the-variants.{Some, None}
 use Rattle.refusals.specs.declared.Ground.the-variants.{TicketLength}
 use Rattle.tickets.specs.Words.{kindOf, shipperOf, fieldOf}
 use Rattle.tickets.specs.Kinds.{ticketKind, ticketLength}
-use Rattle.tickets.specs.Reader.{firstNot, passing, told, refusedAt, judged, readsAs, reads, Sound, SoundHours}
+use Rattle.tickets.specs.Reader.{firstNot, passing, told, refusedAt, judged, readsAs, reads, Sound}
 use Rattle.tickets.specs.declared.kind.TicketKind.{TicketKind}
 use Rattle.tickets.specs.declared.kind.TicketKind.the-variants.{Receipts, Deliveries, Plan, ReceiptsCorrection, DeliveriesCorrection}
 use Rattle.tickets.specs.declared.reader.Check.the-variants.{Shape, Limits}

@@ -4,4 +4,6 @@ mod damaged;
 #[cfg(test)]
 mod figures;
 #[cfg(test)]
+mod month;
+#[cfg(test)]
 mod priced;

@@ -1,11 +1,10 @@
-use Prim.Native.Nat.{ℕ, _+_, _<_, _≤_}
+use Prim.Native.Nat.{_+_, _<_}
 use native.Mathlib.Omega.{arith}
-use mathlib.Core.Bool.{true, false}
+use mathlib.Core.Bool.{false}
 use mathlib.Core.Path.{_≡_, sym, subst, _∙_}
 use lib.ListN.{length}
 use lib.Dec.{eqb}
 use borrow.Author.Tests.{eqb-false}
-use Rattle.std.specs.Keys.{Total}
 use Rattle.std.specs.shelf.Bests.{FirstBest}
 use Rattle.greatest.specs.Greatest.{below}
 use Rattle.greatest.proofs.Turns.{Kept, takes, keeps, begins, answered}

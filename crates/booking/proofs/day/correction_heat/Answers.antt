@@ -1,10 +1,8 @@
-use Prim.Native.Nat.{_^_, _<_}
 use mathlib.Core.Path.{_≡_, sym, ap, subst, _∙_}
 use native.Mathlib.Omega.{arith}
 use lib.IntN.{ℤ, pos, _*ℤ_}
 use mir.Syntax.{w32, w64}
 use mir.Val.{SFits, toZ, ofZ}
-use borrow.Author.Differences.{ints}
 use Rattle.std.proofs.shelf.Signed.{toZ-ofZ}
 use Rattle.booking.proofs.Products.{product-fits}
 use Rattle.booking.proofs.day.correction_heat.Needs as need

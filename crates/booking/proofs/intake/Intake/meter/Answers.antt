@@ -1,10 +1,10 @@
 use Prim.Native.Nat.{_*_}
 use mathlib.Core.Path.{_≡_, ap, _∙_}
-use lib.IntN.{ℤ, pos}
+use lib.IntN.{pos}
 use mir.Syntax.{w64}
 use mir.Val.{toZ, ofZ}
 use Rattle.std.proofs.shelf.Signed.{toZ-ofZ}
-use Rattle.booking.specs.Day.{dayVolume, peakHour}
+use Rattle.booking.specs.Day.{dayVolume}
 use Rattle.booking.specs.Intake.{booked, keptOn}
 use Rattle.booking.specs.declared.intake.Booking.the-variants.{Metered}
 use Rattle.booking.proofs.Peaks.{peak-by-volume, whole-day}
