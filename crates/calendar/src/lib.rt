@@ -1,5 +1,7 @@
 // Months and days as the ticket words number them (docs/RULES.md, "Months and days"): the Gregorian rule for a
 // month's length, and the table of first days, which is that rule summed from January 2000 on.
+#![tactic(auto)]
+
 ghost use Rattle.std.specs.Prelude.{◌≡◌, ◌≤◌};
 ghost use Rattle.calendar.specs.Gregorian.{leap, month_length, first_day, table_months, first_day_told, in_month};
 

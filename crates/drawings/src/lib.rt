@@ -1,5 +1,7 @@
 // A month drawn from a row of accounts (docs/RULES.md, "Drawing"): its prices come from any board that keeps a board's
 // meaning.
+#![tactic(auto)]
+
 ghost use Rattle.std.specs.Prelude.{◌≡◌};
 
 pub mod drawn;

@@ -1,4 +1,6 @@
 // Fields of text into figures (docs/TICKETS.md, "As text"), on the bytes where they lie.
+#![tactic(auto)]
+
 ghost use Rattle.std.specs.Prelude.{◌≡◌, ◌^◌, ◌≤◌, true, length, pos, neg_ℤ, IfSome};
 ghost use Rattle.fields.specs.Numbers.{digit_of, with_digit, number_of, starts_negative, integer_of};
 

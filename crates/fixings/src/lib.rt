@@ -1,4 +1,6 @@
 // Laws that hold over every price board (docs/BOARDS.md, "What follows for every board"), proved once from the meaning.
+#![tactic(auto)]
+
 ghost use Rattle.std.specs.Prelude.{◌≡◌, ℕ, true, is_some};
 ghost use Rattle.std.specs.Option.{option_map};
 ghost use Rattle.prices.specs.Board.{prices_told, fix_bar, held_after};

@@ -50,7 +50,7 @@ module _ {X : Type 0} {R : X → X → Ordering} (o : IsTotalOrder R) (items : L
   begins = record { whole = λ d. refl; first = IsFirstBest-none ranked items }
 
 -- at the end nothing is left to be seen
-pub answered : {X : Type 0} {R : X → X → Ordering → Type 0} (o : IsTotalOrder R) (items : List X) (best i : ℕ) →
+pub answered : {X : Type 0} {R : X → X → Ordering} (o : IsTotalOrder R) (items : List X) (best i : ℕ) →
     0 < length items → length items ≤ i → Kept o items i best → Some best ≡ first_greatest (below o) items
 answered o [] best i some all kept = absurd (omega arith)
 answered o (x ∷ xs) best i some all kept =

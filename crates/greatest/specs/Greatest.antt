@@ -6,8 +6,8 @@ use Rattle.std.specs.Ordering.{is_lt}
 use Rattle.std.specs.List.{IsFirstBest}
 
 -- the test of a total order
-abbrev pub below : {X : Type 0} {R : X → X → Ordering → Type 0} → IsTotalOrder R → X → X → Bool
-below o x y = is_lt (o.cmp x y)
+abbrev pub below : {X : Type 0} {R : X → X → Ordering} → IsTotalOrder R → X → X → Bool
+below {R = R} o x y = is_lt (R x y)
 
 -- the greatest so far stands at `at`, and the items from place i on are still to be seen
 abbrev pub greatest_from : {X : Type 0} → (X → X → Bool) → X → ℕ → ℕ → List X → ℕ

@@ -4,8 +4,8 @@ ghost use Rattle.std.specs.Prelude.{◌≡◌, Some, refl};
 ghost use Rattle.rates.specs.Rates.{rate_told, rate_of, cross, rate_order, same_rate, passing, passing_at, instigator_of, Instigator};
 ghost use Rattle.std.specs.Cmp.Rules.{comparing};
 ghost use Rattle.std.proofs.Common.{rules, arith};
-ghost use Rattle.std.specs.Cmp as Keys;
-ghost use Rattle.std.specs.Cmp.{partial_order_from_agreeing_total};
+ghost use Rattle.std.specs.Cmp.{partial_equiv_from_equiv, partial_order_from_agreeing_total};
+ghost use Rattle.rates.specs.Orders.{rates_total, rates_same, same_tied};
 
 use super::rate::Rate;
 use greatest::first_greatest;
@@ -44,7 +44,7 @@ fn over(x: Rate, y: Rate) -> u64
 impl PartialEq for Rate {
     ghost eq = { λ x y. same_rate x y };
 
-    ghost laws = { Keys.partial_equiv_from_equiv (first_of (Prim.search (comparing, rules), Prim.grind (arith, Self.row.coded.inj))) };
+    ghost laws = { partial_equiv_from_equiv rates_same };
 
     fn eq(&self, other: &Rate) -> bool {
         over(*self, *other) == over(*other, *self)
@@ -52,13 +52,13 @@ impl PartialEq for Rate {
 }
 
 impl Eq for Rate {
-    ghost laws = { first_of (Prim.search (comparing, rules), Prim.grind (arith, Self.row.coded.inj)) };
+    ghost laws = { rates_same };
 }
 
 impl PartialOrd for Rate {
     ghost partial_cmp = { λ x y. Some (rate_order x y) };
 
-    ghost laws = { partial_order_from_agreeing_total (λ x y. rate_order x y) (first_of (Prim.search (comparing, rules), Prim.grind (arith, Self.row.coded.inj))) (λ _ _. refl) (first_of (Prim.search (comparing, rules), Prim.grind (arith, Self.row.coded.inj))) };
+    ghost laws = { partial_order_from_agreeing_total rate_order rates_total (λ _ _. refl) same_tied };
 
     fn partial_cmp(&self, other: &Rate) -> Option<Ordering> {
         Some(over(*self, *other).cmp(&over(*other, *self)))
@@ -68,7 +68,7 @@ impl PartialOrd for Rate {
 impl Ord for Rate {
     ghost cmp = { λ x y. rate_order x y };
 
-    ghost total = { first_of (Prim.search (comparing, rules), Prim.grind (arith, Self.row.coded.inj)) };
+    ghost total = { rates_total };
 
     ghost matches_partial_cmp = { first_of (Prim.search (comparing, rules), Prim.grind (arith, Self.row.coded.inj)) };
 

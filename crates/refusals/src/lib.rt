@@ -1,4 +1,6 @@
 // The one type of refusal (docs/REFUSALS.md): a ground, the layer that found it, and the place there.
+#![tactic(auto)]
+
 ghost use Rattle.std.specs.Prelude.{◌≡◌, Some};
 ghost use Rattle.refusals.specs.Grounds.{ground_number, layer_name, refusal_text};
 

@@ -1,5 +1,7 @@
 // The shippers of a book (docs/RULES.md, "The opening", "A month's tickets"): their accounts in a row, from the opening
 // on.
+#![tactic(auto)]
+
 pub mod opening;
 pub mod roll;
 pub mod rows;

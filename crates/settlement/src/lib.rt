@@ -1,5 +1,7 @@
 // What a settled volume comes to (docs/RULES.md, "Prices, yen and tax"): the kind of price that it takes, its yen, and
 // the tax on them.
+#![tactic(auto)]
+
 ghost use Rattle.std.specs.Prelude.{◌*◌, ◌/◌, ◌≤◌, ◌≡◌, nat_abs};
 ghost use Rattle.prices.specs.Board.{prices_told};
 ghost use Rattle.settlement.specs.Settlement.{kind_number, kind_of, price_of, hundredths, yen_of, tax_of};

@@ -1,5 +1,7 @@
 // What has two sides (docs/RULES.md, "Two sides"): one generic pair for receipts and deliveries, whatever the sides
 // hold, and the marks of the days whose tickets are in.
+#![tactic(auto)]
+
 ghost use Rattle.std.specs.Prelude.{◌≡◌};
 ghost use Rattle.sides.specs.Sides.{side_of, with_side};
 

@@ -1,6 +1,8 @@
 // Rows of figures as text: each figure in decimal, one space between figures, a line feed after the last.
 // A row is written into a buffer that the caller lends, from a place on; all its other bytes stay as they are.
 // The room is tested before the first byte is written, so a row that is refused changes nothing.
+#![tactic(auto)]
+
 ghost use Rattle.std.specs.Prelude.{◌≡◌, ◌+◌, ◌<◌, ◌≤◌, ◌++◌, length, drop, decimal, nat_le};
 ghost use Rattle.std.specs.Fmt.{signed_decimal};
 ghost use Rattle.text.specs.Rows.{figure_text, ended, row_text, placed, row_answer, row_after};

@@ -1,4 +1,6 @@
 // Tests over the layers together: the worked figures of docs/RULES.md, and damaged words.
+#![tactic(auto)]
+
 #[cfg(test)]
 mod damaged;
 #[cfg(test)]

@@ -1,4 +1,6 @@
 // The program: lines from standard input, each answered by one line (docs/TICKETS.md, "As text").
+#![tactic(auto)]
+
 mod line;
 
 use anyhow::anyhow;

@@ -3,11 +3,11 @@ use Rattle.fields.specs.Numbers.{digits_from}
 use Rattle.fields.proofs.Digits.{goes_on, stops, ends}
 use Rattle.fields.proofs.number.Goals as goal
 
-pub returns-in-default : goal.returns-in-default
-returns-in-default c = record {
+pub returns-in_default : goal.returns-in_default
+returns-in_default c = record {
   value = stops c.args.base c.args.most c.args.field.now c.loop-byte.byte-index c.loop-byte.number
-      c.loop-byte-test.true (sym c.in-default.ensures.value) ∙ c.loop-byte.invariant.0
-      ∙ ap (λ b. cond b None (digits_from c.args.base c.args.most (Some 0) c.args.field.now)) c.if-is-empty.ensures;
+      c.loop-byte-test.true (sym c.in_default.ensures.value) ∙ c.loop-byte.invariant.0
+      ∙ ap (λ b. cond b None (digits_from c.args.base c.args.most (Some 0) c.args.field.now)) c.if-is_empty.ensures;
   bound = tt;
 }
 
@@ -22,6 +22,6 @@ pub returns : goal.returns
 returns c = record {
   value = ends c.args.base c.args.most c.args.field.now c.loop-byte.byte-index c.loop-byte.number c.loop-byte-test.false
       ∙ c.loop-byte.invariant.0
-      ∙ ap (λ b. cond b None (digits_from c.args.base c.args.most (Some 0) c.args.field.now)) c.if-is-empty.ensures;
+      ∙ ap (λ b. cond b None (digits_from c.args.base c.args.most (Some 0) c.args.field.now)) c.if-is_empty.ensures;
   bound = c.loop-byte.invariant.1;
 }

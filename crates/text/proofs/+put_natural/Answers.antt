@@ -16,21 +16,21 @@ begun t c =
       | else-n-lt10 w ↦ record {
         front = decimal (n / 10);
         whole = decimal_step n w.if-n-lt10.false fit;
-        size = w.place-is ∙ w.put-natural-place.ensures.value;
-        holds = w.out-is ∙ w.put-natural-place.ensures.after;
+        size = w.place-is ∙ w.put_natural-place.ensures.value;
+        holds = w.out-is ∙ w.put_natural-place.ensures.after;
       }
     ]
 
-pub put-natural-place-requires : goal.put-natural-place-requires
-put-natural-place-requires t c =
+pub put_natural-place-requires : goal.put_natural-place-requires
+put_natural-place-requires t c =
     let n = c.args.n in
     let fit : n < 2 ^ 64 = omega arith in (search rules, omega (arith, length_more n c.if-n-lt10.false fit))
 
 pub bounds-out-place : goal.bounds-out-place
 bounds-out-place t c = omega (arith, begun_size (begun t (goal.at.bounds-out-place t c).Joined-n-lt10), c.if-n-lt10.auto.out)
 
-pub overflow-add-result : goal.overflow-add-result
-overflow-add-result t c = omega (arith, begun_size (begun t (goal.at.overflow-add-result t c).Joined-n-lt10), c.if-n-lt10.auto.out)
+pub overflow_add-result : goal.overflow_add-result
+overflow_add-result t c = omega (arith, begun_size (begun t (goal.at.overflow_add-result t c).Joined-n-lt10), c.if-n-lt10.auto.out)
 
 pub returns : goal.returns
 returns t c =

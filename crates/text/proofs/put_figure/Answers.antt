@@ -16,8 +16,8 @@ begun c =
       | in-Natural w ↦ record {
         front = decimal w.in-Natural.n;
         whole = ap (λ figure. ended figure c.args.end) w.in-Natural.is;
-        size = w.written-is ∙ w.put-natural-written.ensures.value;
-        holds = w.out-is ∙ w.put-natural-written.ensures.after;
+        size = w.written-is ∙ w.put_natural-written.ensures.value;
+        holds = w.out-is ∙ w.put_natural-written.ensures.after;
       }
       | in-Integer w ↦
           let z = w.in-Integer.z in
@@ -26,8 +26,8 @@ begun c =
           record {
             front = signed_decimal (to_z w64 (of_z w64 z));
             whole = ap (λ figure. ended figure c.args.end) same;
-            size = w.written-is ∙ w.put-integer-written.ensures.value;
-            holds = w.out-is ∙ w.put-integer-written.ensures.after;
+            size = w.written-is ∙ w.put_integer-written.ensures.value;
+            holds = w.out-is ∙ w.put_integer-written.ensures.after;
           }
     ]
 

@@ -36,27 +36,27 @@ reach : (c : Joined-i-figures) →
     c.loop-i.place + length (text c) + length (row_text (rest c)) ≡ c.args.at + length (row_text c.args.figures.now)
 reach c = omega (arith, ap length (left c) ∙ length-append (text c) (row_text (rest c)), c.loop-i.invariant.0)
 
-pub put-figure-place-requires : goal.put-figure-place-requires
-put-figure-place-requires c =
-    let j = (goal.at.put-figure-place-requires c).Joined-i-figures in
+pub put_figure-place-requires : goal.put_figure-place-requires
+put_figure-place-requires c =
+    let j = (goal.at.put_figure-place-requires c).Joined-i-figures in
     let tail = ap length (take_rest c.loop-i.buffer c.loop-i.place) ∙ length-drop c.loop-i.place c.loop-i.buffer in
     omega (arith, reach j, length_ended (this j) c.if-i-figures.end, tail, c.loop-i.auto.buffer)
 
-pub overflow-add-place : goal.overflow-add-place
-overflow-add-place c =
-    omega (arith, reach (goal.at.overflow-add-place c).Joined-i-figures, c.put-figure-place.ensures.value, c.loop-i.auto.buffer)
+pub overflow_add-place : goal.overflow_add-place
+overflow_add-place c =
+    omega (arith, reach (goal.at.overflow_add-place c).Joined-i-figures, c.put_figure-place.ensures.value, c.loop-i.auto.buffer)
 
 pub loop-i-preserved : goal.loop-i-preserved
 loop-i-preserved c =
     let j = (goal.at.loop-i-preserved c).Joined-i-figures in
     let place = c.loop-i.place in
     let buffer = c.loop-i.buffer in
-    let last = c.put-figure-place.new.out in
+    let last = c.put_figure-place.new.out in
     let put : List ℕ = put_mid place (length buffer - place) buffer last in
     let room : place + length (text j) ≤ length buffer = omega (arith, reach j, c.loop-i.auto.buffer) in (
-      omega (arith, reach j, c.put-figure-place.ensures.value),
-      ap (λ n. placed (place + n) (row_text (rest j)) put) c.put-figure-place.ensures.value
-          ∙ placed_step place (text j) (row_text (rest j)) buffer last room c.put-figure-place.ensures.after
+      omega (arith, reach j, c.put_figure-place.ensures.value),
+      ap (λ n. placed (place + n) (row_text (rest j)) put) c.put_figure-place.ensures.value
+          ∙ placed_step place (text j) (row_text (rest j)) buffer last room c.put_figure-place.ensures.after
           ∙ ap (λ bytes. placed place bytes buffer) (sym (left j))
           ∙ c.loop-i.invariant.1,
     )

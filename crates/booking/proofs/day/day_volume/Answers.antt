@@ -19,8 +19,8 @@ loop-i-preserved c =
     let hours = c.args.hours.now in
     let within : i < length hours = omega (arith, c.min-i-end.ensures) in
     let small : field_of (get_or hours i 0) < 2 ^ 28 = mod_below (get_or hours i 0) (2 ^ 28) (omega arith) in (
-      omega (arith, c.loop-i.invariant.0, c.from-volume.ensures, c.field-of.ensures.value, sum_by_more field_of hours i 0 within),
-      omega (arith, c.loop-i.invariant.1, c.from-volume.ensures, c.field-of.ensures.value, small),
+      omega (arith, c.loop-i.invariant.0, c.from-volume.ensures, c.field_of.ensures.value, sum_by_more field_of hours i 0 within),
+      omega (arith, c.loop-i.invariant.1, c.from-volume.ensures, c.field_of.ensures.value, small),
     )
 
 pub returns : goal.returns

@@ -5,5 +5,5 @@ use Rattle.booking.proofs.day.peak_hour.Goals as goal
 
 pub returns : goal.returns
 returns c = record {
-  value = c.unwrap-or.ensures ∙ ap (λ (o : Option ℕ). unwrap_or o 0) (c.first-greatest.ensures.value nat_cmp_total ∙ by_number c.args.hours.now);
+  value = c.unwrap_or.ensures ∙ ap (λ (o : Option ℕ). unwrap_or o 0) (c.first_greatest.ensures.value nat_cmp_total ∙ by_number c.args.hours.now);
 }

@@ -19,22 +19,22 @@ returns-in-Some g c =
 pub returns-in-Err : goal.returns-in-Err
 returns-in-Err g c =
     let way = ways (g.B.Asking.held c.args.board.now) c.args.place c.args.days c.args.percent c.args.sheet.now c.args.roll.now in
-    let value = way.through c.if-sheet-roll.false c.in-default.ensures.value (Err c.in-Err.refusal)
+    let value = way.through c.if-sheet-roll.false c.in_default.ensures.value (Err c.in-Err.refusal)
     (ap (issued_priced c.args.percent (roll_told c.args.roll.now)) c.in-Err.ensures.value) in
     record { value = value; after = way.stays c.in-Err.refusal value }
 
-pub returns-in-Err-issued-month : goal.returns-in-Err-issued-month
-returns-in-Err-issued-month g c =
+pub returns-in-Err-issued_month : goal.returns-in-Err-issued_month
+returns-in-Err-issued_month g c =
     let way = ways (g.B.Asking.held c.args.board.now) c.args.place c.args.days c.args.percent c.args.sheet.now c.args.roll.now in
-    let value = way.through c.if-sheet-roll.false c.in-default.ensures.value (Err c.in-Err-issued-month.refusal)
-    (c.in-Err-issued-month.ensures.value ∙ ap (issued_priced c.args.percent (roll_told c.args.roll.now)) c.in-Ok.ensures.value) in
-    record { value = value; after = way.stays c.in-Err-issued-month.refusal value }
+    let value = way.through c.if-sheet-roll.false c.in_default.ensures.value (Err c.in-Err-issued_month.refusal)
+    (c.in-Err-issued_month.ensures.value ∙ ap (issued_priced c.args.percent (roll_told c.args.roll.now)) c.in-Ok.ensures.value) in
+    record { value = value; after = way.stays c.in-Err-issued_month.refusal value }
 
 pub returns : goal.returns
 returns g c =
     let way = ways (g.B.Asking.held c.args.board.now) c.args.place c.args.days c.args.percent c.args.sheet.now c.args.roll.now in
-    let value = way.through c.if-sheet-roll.false c.in-default.ensures.value (Ok (roll_told c.in-Ok-issued-month.next))
-    (c.in-Ok-issued-month.ensures.value ∙ ap (issued_priced c.args.percent (roll_told c.args.roll.now)) c.in-Ok.ensures.value) in
+    let value = way.through c.if-sheet-roll.false c.in_default.ensures.value (Ok (roll_told c.in-Ok-issued_month.next))
+    (c.in-Ok-issued_month.ensures.value ∙ ap (issued_priced c.args.percent (roll_told c.args.roll.now)) c.in-Ok.ensures.value) in
     record {
       value = value;
       after = c.draw.ensures.after ∙ (λ j. sheet_of c.args.percent c.args.sheet.now (value j) (c.in-Ok.ensures.value j));

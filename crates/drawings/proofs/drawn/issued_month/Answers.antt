@@ -16,6 +16,6 @@ returns c =
     let accounts = roll_told c.args.roll.now in
     let long = lines_long (pool_of (figures_of entries)) (instigator_of (rates_of entries)) c.args.percent 0 entries in
     record {
-      value = c.issued-roll.ensures.value ∙ ap (λ (lines : List Line). issued_roll lines accounts) c.draw.ensures.after
+      value = c.issued_roll.ensures.value ∙ ap (λ (lines : List Line). issued_roll lines accounts) c.draw.ensures.after
           ∙ drawn_same (statement_of c.args.percent entries) accounts (omega (arith, long, entries_long month, month.few));
     }

@@ -7,8 +7,8 @@ use Rattle.drawings.specs.Drawing.{each, limited, issued_at, issued_roll}
 use Rattle.drawings.proofs.Eaches.{after, goes_on, stops, ends, begun}
 use Rattle.drawings.proofs.issuing.issued_roll.Goals as goal
 
-pub returns-in-default : goal.returns-in-default
-returns-in-default c =
+pub returns-in_default : goal.returns-in_default
+returns-in_default c =
     let roll = c.args.roll.now in
     let i = c.loop-i.i in
     let x = c.index-roll-i.result in
@@ -16,7 +16,7 @@ returns-in-default c =
     record {
       value = ap Err c.refused.ensures.value
           ∙ stops (issued_at c.args.lines.now) (roll_told roll) i (map account_told (take i c.loop-i.accounts)) (account_told x) _
-          (ap (limited i) (c.in-default.ensures.value ∙ (λ j. issued_if (c.line-at.ensures.value j) (at j))))
+          (ap (limited i) (c.in_default.ensures.value ∙ (λ j. issued_if (c.line_at.ensures.value j) (at j))))
           (omega (arith, roll_long roll, c.loop-i-test.true)) ∙ c.loop-i.invariant.1;
     }
 
@@ -35,7 +35,7 @@ loop-i-preserved c =
       length-set accounts i account ∙ c.loop-i.invariant.0,
       ap (λ (done : List AccountTold). after done (each answer (i + 1) (drop (i + 1) (roll_told roll)))) more
           ∙ goes_on answer (roll_told roll) i (map account_told (take i accounts)) (account_told x) (account_told account)
-          (ap (limited i) (c.in-Some.ensures.value ∙ (λ j. issued_if (c.line-at.ensures.value j) (at j))))
+          (ap (limited i) (c.in-Some.ensures.value ∙ (λ j. issued_if (c.line_at.ensures.value j) (at j))))
           (omega (arith, roll_long roll, c.loop-i-test.true)) ∙ c.loop-i.invariant.1,
     )
 

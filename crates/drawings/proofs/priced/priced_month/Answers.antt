@@ -9,15 +9,15 @@ use Rattle.drawings.specs.Drawing.{each, priced, priced_at, priced_month}
 use Rattle.drawings.proofs.Eaches.{after, goes_on, stops, ends, begun}
 use Rattle.drawings.proofs.priced.priced_month.Goals as goal
 
-pub returns-in-default : goal.returns-in-default
-returns-in-default g c =
+pub returns-in_default : goal.returns-in_default
+returns-in_default g c =
     let roll = c.args.roll.now in
     let answer = priced_at (g.B.Asking.held c.args.board.now) c.args.place in
     let d = opened (pos 0) (pos 0) in
     let i = c.loop-i.i in
     record {
       value = ap Err c.refused.ensures.value
-          ∙ stops answer (roll_told roll) i (entries_of c.loop-i.month) d _ (ap (λ o. priced i o (get_or (roll_told roll) i d)) c.in-default.ensures.value)
+          ∙ stops answer (roll_told roll) i (entries_of c.loop-i.month) d _ (ap (λ o. priced i o (get_or (roll_told roll) i d)) c.in_default.ensures.value)
           (omega (arith, roll_long roll, c.loop-i-test.true)) ∙ c.loop-i.invariant.1;
     }
 

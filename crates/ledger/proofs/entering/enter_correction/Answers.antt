@@ -13,8 +13,8 @@ returns-then-at-roll c = record {
       (after_correction c.args.standard.units c.args.side c.args.heat.units c.args.price);
 }
 
-pub returns-in-default : goal.returns-in-default
-returns-in-default c =
+pub returns-in_default : goal.returns-in_default
+returns-in_default c =
     let standard = c.args.standard.units in
     let side = c.args.side in
     let heat = c.args.heat.units in
@@ -22,9 +22,9 @@ returns-in-default c =
     let d = c.index-roll-at.result in
     let x = get_or c.args.roll.now.accounts c.args.shipper d in
     let due = correction_of standard side heat price (account_told x) in
-    let none = c.in-default.ensures.value in
+    let none = c.in_default.ensures.value in
     record {
-      value = ap Err c.refused-in-default.ensures.value ∙ ap (corrected_or c.args.shipper) none
+      value = ap Err c.refused-in_default.ensures.value ∙ ap (corrected_or c.args.shipper) none
           ∙ answered c.args.roll.now c.args.shipper d c.if-at-roll.false
           (λ a. corrected_or c.args.shipper (corrected standard side heat price a));
       after = kept c.args.roll.now c.args.shipper d c.if-at-roll.false (after_correction standard side heat price)

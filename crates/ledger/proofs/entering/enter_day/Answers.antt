@@ -17,21 +17,21 @@ returns-then-at-roll c =
       after = untouched roll c.args.shipper c.if-at-roll.true (day_change c.args.standard.units place c.args.side c.args.heat.units);
     }
 
-pub returns-in-default : goal.returns-in-default
-returns-in-default c =
+pub returns-in_default : goal.returns-in_default
+returns-in_default c =
     let roll = c.args.roll.now in
     let standard = c.args.standard.units in
-    let at = c.in-default.ensures.value in
+    let at = c.in_default.ensures.value in
     record {
-      value = ap Err c.refused-in-default.ensures.value
+      value = ap Err c.refused-in_default.ensures.value
           ∙ inside roll c.args.shipper (day_answer standard None c.args.side c.args.day.0 c.args.heat.units) c.if-at-roll.false
           ∙ ap (λ (o : Option ℕ). answer_of c.args.shipper (roll_told roll) (day_answer standard o c.args.side c.args.day.0 c.args.heat.units)) at;
       after = same roll c.args.shipper (day_change standard None c.args.side c.args.heat.units) refl
           ∙ ap (λ (o : Option ℕ). change_of c.args.shipper (roll_told roll) (day_change standard o c.args.side c.args.heat.units)) at;
     }
 
-pub returns-in-default-meter : goal.returns-in-default-meter
-returns-in-default-meter c =
+pub returns-in_default-meter : goal.returns-in_default-meter
+returns-in_default-meter c =
     let roll = c.args.roll.now in
     let standard = c.args.standard.units in
     let side = c.args.side in
@@ -41,9 +41,9 @@ returns-in-default-meter c =
     let d = c.index-roll-at.result in
     let x = get_or c.args.roll.now.accounts c.args.shipper d in
     let at = c.in-Some.ensures.value in
-    let none = c.in-default-meter.ensures.value in
+    let none = c.in_default-meter.ensures.value in
     record {
-      value = ap Err c.refused-in-default-meter.ensures.value ∙ ap (booked_or day) none
+      value = ap Err c.refused-in_default-meter.ensures.value ∙ ap (booked_or day) none
           ∙ answered roll c.args.shipper d c.if-at-roll.false (day_answer standard (Some place) side day heat)
           ∙ ap (λ (o : Option ℕ). answer_of c.args.shipper (roll_told roll) (day_answer standard o side day heat)) at;
       after = kept roll c.args.shipper d c.if-at-roll.false (day_change standard (Some place) side heat)

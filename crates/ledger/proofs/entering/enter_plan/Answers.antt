@@ -20,12 +20,12 @@ returns-then-at-roll c =
       after = untouched c.args.roll.now c.args.shipper c.if-at-roll.true (plan_change place c.args.plan.volume);
     }
 
-pub returns-in-default : goal.returns-in-default
-returns-in-default c =
+pub returns-in_default : goal.returns-in_default
+returns-in_default c =
     let roll = c.args.roll.now in
-    let at = c.in-default.ensures.value in
+    let at = c.in_default.ensures.value in
     record {
-      value = ap Err c.refused-in-default.ensures.value
+      value = ap Err c.refused-in_default.ensures.value
           ∙ inside roll c.args.shipper (plan_answer None c.args.day.0 c.args.plan.volume) c.if-at-roll.false
           ∙ ap (λ (o : Option ℕ). answer_of c.args.shipper (roll_told roll) (plan_answer o c.args.day.0 c.args.plan.volume)) at;
       after = same roll c.args.shipper (plan_change None c.args.plan.volume) refl

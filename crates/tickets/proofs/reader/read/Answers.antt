@@ -6,5 +6,5 @@ use Rattle.tickets.proofs.reader.read.Goals as goal
 
 pub returns : goal.returns
 returns c =
-    let value : ◌≡◌ {A = Result Told Refusal} (Ok (ticket_told c.ticket-of.result)) (reads c.args.words.now) = search rules in
+    let value : ◌≡◌ {A = Result Told Refusal} (Ok (ticket_told c.ticket_of.result)) (reads c.args.words.now) = search rules in
     record { value = value; sound = subst (λ (t : Result Told Refusal). IfOk t Sound) (sym value) (reads_sound c.args.words.now) }

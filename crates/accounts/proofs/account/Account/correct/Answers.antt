@@ -6,8 +6,8 @@ use Rattle.accounts.proofs.Bounds.{Below, left_put}
 use Rattle.accounts.proofs.Sums.{corrected_is, after_is, none_corrected, after_none}
 use Rattle.accounts.proofs.account.Account.correct.Goals as goal
 
-pub returns-in-default : goal.returns-in-default
-returns-in-default c =
+pub returns-in_default : goal.returns-in_default
+returns-in_default c =
     let a = c.args.self.now in
     let told = account_told a in
     let standard = c.args.standard.units in
@@ -15,18 +15,18 @@ returns-in-default c =
     let heat = c.args.heat.units in
     let price = c.args.price in
     let is : c.split-split.result ≡ split standard side heat told = search rules in
-    let due : c.correction-at-due.result ≡ correction_of standard side heat price told = search rules in
-    let volume : to_z w64 (of_z w64 c.correction-at-due.result.volume) ≡ c.correction-at-due.result.volume = search rules in
-    let yen : to_z w64 (of_z w64 c.correction-at-due.result.yen) ≡ c.correction-at-due.result.yen = search rules in
-    let over : over_by c.correction-at-due.result.volume c.correction-at-due.result.yen told ≡ true =
-    sym (λ j. over_by (volume j) (yen j) told) ∙ c.in-default.ensures.value in
+    let due : c.correction_at-due.result ≡ correction_of standard side heat price told = search rules in
+    let volume : to_z w64 (of_z w64 c.correction_at-due.result.volume) ≡ c.correction_at-due.result.volume = search rules in
+    let yen : to_z w64 (of_z w64 c.correction_at-due.result.yen) ≡ c.correction_at-due.result.yen = search rules in
+    let over : over_by c.correction_at-due.result.volume c.correction_at-due.result.yen told ≡ true =
+    sym (λ j. over_by (volume j) (yen j) told) ∙ c.in_default.ensures.value in
     record {
-      value = none_corrected standard side heat price told c.correction-at-due.result due over;
-      after = after_none standard side heat price told c.correction-at-due.result due over;
+      value = none_corrected standard side heat price told c.correction_at-due.result due over;
+      after = after_none standard side heat price told c.correction_at-due.result due over;
     }
 
-pub invariant-of-self : goal.invariant-of-self
-invariant-of-self c =
+pub invariant_of-self : goal.invariant_of-self
+invariant_of-self c =
     let a = c.args.self.now in
     let sums = c.in-Some.sums in
     let summed = c.in-Some.ensures.value in
@@ -57,18 +57,18 @@ returns c =
     let heat = c.args.heat.units in
     let price = c.args.price in
     let is : c.split-split.result ≡ split standard side heat told = search rules in
-    let due : c.correction-at-due.result ≡ correction_of standard side heat price told = search rules in
-    let volume : to_z w64 (of_z w64 c.correction-at-due.result.volume) ≡ c.correction-at-due.result.volume = search rules in
-    let yen : to_z w64 (of_z w64 c.correction-at-due.result.yen) ≡ c.correction-at-due.result.yen = search rules in
+    let due : c.correction_at-due.result ≡ correction_of standard side heat price told = search rules in
+    let volume : to_z w64 (of_z w64 c.correction_at-due.result.volume) ≡ c.correction_at-due.result.volume = search rules in
+    let yen : to_z w64 (of_z w64 c.correction_at-due.result.yen) ≡ c.correction_at-due.result.yen = search rules in
     let sums = c.in-Some.sums in
     let summed = c.in-Some.ensures.value in
-    let fits : over_by c.correction-at-due.result.volume c.correction-at-due.result.yen told ≡ false =
+    let fits : over_by c.correction_at-due.result.volume c.correction_at-due.result.yen told ≡ false =
     sym (λ j. over_by (volume j) (yen j) told) ∙ summed.fits in
     let settled : to_z w64 (of_z w64 sums.settled) ≡ sums.settled = search rules in
     let yens : to_z w64 (of_z w64 sums.yen) ≡ sums.yen = search rules in
     let remainders = c.put.ensures.after ∙ ap (λ (s : Split). with_side side a.remainders s.remainder) is in
     record {
-      value = corrected_is standard side heat price told c.correction-at-due.result due fits;
+      value = corrected_is standard side heat price told c.correction_at-due.result due fits;
       after = (λ j. record {
         remainders = remainders j;
         volumes = told.volumes;
@@ -79,5 +79,5 @@ returns c =
         newer = told.newer;
         settled = (settled ∙ summed.settled ∙ ap (λ (z : ℤ). a.settled +ℤ z) volume) j;
         yen = (yens ∙ summed.yens ∙ ap (λ (z : ℤ). a.yen +ℤ z) yen) j;
-      }) ∙ after_is standard side heat price told c.correction-at-due.result due fits;
+      }) ∙ after_is standard side heat price told c.correction_at-due.result due fits;
     }

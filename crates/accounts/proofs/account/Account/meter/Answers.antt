@@ -6,28 +6,28 @@ use Rattle.sides.specs.Days.{taken, marked}
 use Rattle.accounts.proofs.Bounds.{Below, Flows, day_more, flow_of, left_put, flow_put, free_of}
 use Rattle.accounts.proofs.account.Account.meter.Goals as goal
 
-pub overflow-add-volume : goal.overflow-add-volume
-overflow-add-volume c =
+pub overflow_add-volume : goal.overflow_add-volume
+overflow_add-volume c =
     let marks = c.get-marks.result in
-    let free : taken c.args.place marks.marks ≡ false = free_of (taken c.args.place marks.marks) c.if-not-is-free.ensures.value in
+    let free : taken c.args.place marks.marks ≡ false = free_of (taken c.args.place marks.marks) c.if-not-is_free.ensures.value in
     let day = day_more marks c.args.place free in
     let flow = flow_of c.args.self.now c.args.side in
     let same = ap (λ (m : DayMarks). marked m.marks) c.get-marks.ensures.value in
-    let few : c.unsigned-abs.result ≤ 30000002 = omega (arith, ints, c.unsigned-abs.ensures.value, c.split-split.ensures.few.0) in
-    let sum : c.get.result + c.unsigned-abs.result ≤ 930000062 = omega (arith, day.1, flow, same, few, c.get.ensures.value) in
+    let few : c.unsigned_abs.result ≤ 30000002 = omega (arith, ints, c.unsigned_abs.ensures.value, c.split-split.ensures.few.0) in
+    let sum : c.get.result + c.unsigned_abs.result ≤ 930000062 = omega (arith, day.1, flow, same, few, c.get.ensures.value) in
     search rules
 
-pub invariant-of-self : goal.invariant-of-self
-invariant-of-self c =
+pub invariant_of-self : goal.invariant_of-self
+invariant_of-self c =
     let a = c.args.self.now in
     let marks = c.get-marks.result in
-    let free : taken c.args.place marks.marks ≡ false = free_of (taken c.args.place marks.marks) c.if-not-is-free.ensures.value in
+    let free : taken c.args.place marks.marks ≡ false = free_of (taken c.args.place marks.marks) c.if-not-is_free.ensures.value in
     let day = day_more marks c.args.place free in
     let flow = flow_of a c.args.side in
     let same = ap (λ (m : DayMarks). marked m.marks) c.get-marks.ensures.value in
     let after = ap marked c.mark.ensures.after in
-    let few : c.unsigned-abs.result ≤ 30000002 = omega (arith, ints, c.unsigned-abs.ensures.value, c.split-split.ensures.few.0) in
-    let most : c.get.result + c.unsigned-abs.result ≤ 30000002 * marked c.mark.new.self.marks =
+    let few : c.unsigned_abs.result ≤ 30000002 = omega (arith, ints, c.unsigned_abs.ensures.value, c.split-split.ensures.few.0) in
+    let most : c.get.result + c.unsigned_abs.result ≤ 30000002 * marked c.mark.new.self.marks =
     omega (arith, day.0, flow, same, few, c.get.ensures.value, after) in (
       subst Below (sym c.put.ensures.after) (left_put a c.args.side c.split-split.result.remainder c.split-split.ensures.few.1),
       (

@@ -11,13 +11,13 @@ returns c =
     let hours = c.args.hours.now in
     let units = c.args.self.now.standard.units in
     let all = c.args.self.now.remainders in
-    let heat : to_z w64 (of_z w64 c.day-heat.result) ≡ pos (day_volume hours * c.args.heat) =
-    to_z-of_z w64 c.day-heat.result (record { sfits = c.day-heat.type-inv }) ∙ c.day-heat.ensures.value
+    let heat : to_z w64 (of_z w64 c.day_heat.result) ≡ pos (day_volume hours * c.args.heat) =
+    to_z-of_z w64 c.day_heat.result (record { sfits = c.day_heat.type_inv }) ∙ c.day_heat.ensures.value
     ∙ ap (λ hs. pos (day_volume hs * c.args.heat)) (whole_day hours c.requires.hours) in
     let volume : to_z w64 (of_z w64 c.book-volume.result) ≡ (booked units all c.args.side c.args.shipper (pos (day_volume hours * c.args.heat))).booked =
-    to_z-of_z w64 c.book-volume.result (record { sfits = c.book-volume.type-inv }) ∙ c.book-volume.ensures.value
+    to_z-of_z w64 c.book-volume.result (record { sfits = c.book-volume.type_inv }) ∙ c.book-volume.ensures.value
     ∙ ap (λ h. (booked units all c.args.side c.args.shipper h).booked) heat in
-    let peak = c.peak-hour.ensures.value ∙ peak_by_volume hours c.requires.hours in
+    let peak = c.peak_hour.ensures.value ∙ peak_by_volume hours c.requires.hours in
     record {
       value = λ i. Metered (volume i) (peak i);
       standard = c.book-volume.ensures.standard;

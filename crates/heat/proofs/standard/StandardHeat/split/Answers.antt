@@ -6,8 +6,8 @@ use Rattle.heat.specs.Split.{split_of}
 use Rattle.heat.proofs.Splits.{split_is, split_conserves, bits_fit, bits_are}
 use Rattle.heat.proofs.standard.StandardHeat.split.Goals as goal
 
-pub overflow-add-result : goal.overflow-add-result
-overflow-add-result c =
+pub overflow_add-result : goal.overflow_add-result
+overflow_add-result c =
     let u = c.from-units.result in
     let units = c.from-units.ensures in
     let same = to_z-of_z w64 c.args.heat c.ranges.heat in

@@ -12,33 +12,33 @@ use Rattle.rolls.proofs.roll.Roll.new.Goals as goal
 abbrev none : Carries
 none = record { older = pos 0; newer = pos 0 }
 
-pub returns-in-default : goal.returns-in-default
-returns-in-default c =
+pub returns-in_default : goal.returns-in_default
+returns-in_default c =
     let carries = c.args.carries.now in
     let size : (eqb (length carries) 0 || ltb 16 (length carries)) ≡ false = grind (arith, nat_tests) in
     record {
-      value = ap Err c.outside-in-default.ensures.value
-          ∙ stopped_at carries size 0 (stops carries_allowed carries 0 none (omega arith) (not_opened (get_or carries 0 none) c.in-default.ensures.value));
+      value = ap Err c.outside-in_default.ensures.value
+          ∙ stopped_at carries size 0 (stops carries_allowed carries 0 none (omega arith) (not_opened (get_or carries 0 none) c.in_default.ensures.value));
     }
 
-pub returns-in-default-account-of : goal.returns-in-default-account-of
-returns-in-default-account-of c =
+pub returns-in_default-account_of : goal.returns-in_default-account_of
+returns-in_default-account_of c =
     let carries = c.args.carries.now in
     let i = c.loop-i.i in
     let size : (eqb (length carries) 0 || ltb 16 (length carries)) ≡ false = grind (arith, nat_tests) in
     record {
-      value = ap Err c.outside-in-default-account-of.ensures.value
+      value = ap Err c.outside-in_default-account_of.ensures.value
           ∙ stopped_at carries size i
-          (stops carries_allowed carries i none c.loop-i-test.true (not_opened (get_or carries i none) c.in-default-account-of.ensures.value) ∙ c.loop-i.invariant.2);
+          (stops carries_allowed carries i none c.loop-i-test.true (not_opened (get_or carries i none) c.in_default-account_of.ensures.value) ∙ c.loop-i.invariant.2);
     }
 
 pub loop-i-preserved : goal.loop-i-preserved
 loop-i-preserved c =
     let carries = c.args.carries.now in
     let i = c.loop-i.i in
-    let one = opened_is (get_or carries i none) (account_told c.in-Some-account-of.account) c.in-Some-account-of.ensures.value in (
-      length-set c.loop-i.accounts i c.in-Some-account-of.account ∙ c.loop-i.invariant.0,
-      image_more opened_account account_told carries c.loop-i.accounts i c.in-Some-account-of.account none c.loop-i-test.true
+    let one = opened_is (get_or carries i none) (account_told c.in-Some-account_of.account) c.in-Some-account_of.ensures.value in (
+      length-set c.loop-i.accounts i c.in-Some-account_of.account ∙ c.loop-i.invariant.0,
+      image_more opened_account account_told carries c.loop-i.accounts i c.in-Some-account_of.account none c.loop-i-test.true
           (omega (arith, c.loop-i.invariant.0, c.loop-i-test.true)) c.loop-i.invariant.1 one.is,
       goes_on carries_allowed carries i none c.loop-i-test.true one.allowed ∙ c.loop-i.invariant.2,
     )

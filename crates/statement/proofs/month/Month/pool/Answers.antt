@@ -15,7 +15,7 @@ returns c =
     ∙ ap (take month.count) c.figures-figures.ensures.value ∙ take-map (λ (e : Entry). e.figures) month.count month.entries
     ∙ sym (map-map (λ (e : EntryTold). e.figures) entry_told (take month.count month.entries)) in
     record {
-      value = c.pool-of.ensures.value ∙ ap pool_of same;
-      fair = subst AllFair same c.pool-of.ensures.fair;
-      calm = subst CalmExactly same c.pool-of.ensures.calm;
+      value = c.pool_of.ensures.value ∙ ap pool_of same;
+      fair = subst AllFair same c.pool_of.ensures.fair;
+      calm = subst CalmExactly same c.pool_of.ensures.calm;
     }

@@ -1,10 +1,10 @@
--- The order of rates is total, since every rate's denominator is above 0.
-use Rattle.std.proofs.Common.{◌≡◌, ℕ, ◌*◌, ◌<◌, Ordering, Less, Equal, sym, ap, ◌∙◌, ⊎_elim, lt_of_mul-lt-mul_right, mul-lt-mul_of_pos_right, mul_right_comm, arith}
+-- What the laws of a rate's comparison rest on: its order is total, since every denominator is above 0.
+use Rattle.std.proofs.Common.{◌≡◌, ◌==◌, true, ℕ, ◌*◌, ◌<◌, Less, Equal, sym, ap, ◌∙◌, ⊎_elim, lt_of_mul-lt-mul_right, mul-lt-mul_of_pos_right, mul_right_comm, arith}
 use Rattle.std.proofs.lemmas.Bool.{cases_order}
 use Rattle.std.proofs.lemmas.Bool.Decides.{nat_tests}
-use Rattle.std.specs.Cmp.{IsTotalOrder}
-use Rattle.std.specs.Ordering.{ordering_reverse, nat_cmp}
-use Rattle.rates.specs.Rates.{cross, rate_order}
+use Rattle.std.specs.Cmp.{IsTotalOrder, IsEquivalence}
+use Rattle.std.specs.Ordering.{ordering_reverse, nat_cmp, is_eq, eq_by_cmp}
+use Rattle.rates.specs.Rates.{cross, rate_order, same_rate}
 use Rattle.rates.specs.declared.rate.Rate.{Rate}
 
 scaled_lt : (a b k : ℕ) → 0 < k → a < b → a * k < b * k
@@ -46,11 +46,32 @@ same_by x y z e =
     sym (rank_scaled (cross x z) (cross z x) y.plan y.some) ∙ (λ i. nat_cmp (left i) (right i))
     ∙ rank_scaled (cross y z) (cross z y) x.plan x.some
 
-abbrev pub rates_total : IsTotalOrder (λ (x y : Rate) (r : Ordering). r ≡ rate_order x y)
+pub rates_total : IsTotalOrder rate_order
 rates_total = record {
-  cmp = rate_order;
-  says = λ x y r h. h;
-  flip = λ x y. turned (cross x y) (cross y x);
+  antisymm = λ x y. turned (cross x y) (cross y x);
   trans = λ x y z p q. less_is (cross x z) (cross z x) (chain x y z (is_less (cross x y) (cross y x) p) (is_less (cross y z) (cross z y) q));
-  alike = λ x y z p. same_by x y z (is_equal (cross x y) (cross y x) p);
+  congr = λ x y z p. same_by x y z (is_equal (cross x y) (cross y x) p);
+}
+
+tied : (a b : ℕ) → (a == b) ≡ is_eq (nat_cmp a b)
+tied a b = grind (arith, nat_tests)
+
+-- equal rates are those that the order does not tell apart
+pub same_tied : (x y : Rate) → same_rate x y ≡ eq_by_cmp rate_order x y
+same_tied x y = tied (cross x y) (cross y x)
+
+itself : (a : ℕ) → (a == a) ≡ true
+itself a = grind (arith, nat_tests)
+
+either_way : (a b : ℕ) → (a == b) ≡ (b == a)
+either_way a b = grind (arith, nat_tests)
+
+equal : (a b : ℕ) → (a == b) ≡ true → a ≡ b
+equal a b e = grind (arith, nat_tests)
+
+pub rates_same : IsEquivalence same_rate
+rates_same = record {
+  refl = λ x. itself (cross x x);
+  symm = λ x y. either_way (cross x y) (cross y x);
+  congr = λ x y z e. same_tied x z ∙ ap is_eq (same_by x y z (equal (cross x y) (cross y x) e)) ∙ sym (same_tied y z);
 }
