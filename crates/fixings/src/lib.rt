@@ -20,7 +20,7 @@ pub struct Request<E> {
 
 // Asks a board that could be changed: it is not.
 pub fn ask_only<B: Asking>(board: &mut B, shipper: u32, place: u32) -> Option<Prices>
-    ensures value { option_map prices_told result ≡ B.Asking.held board.old shipper place }
+    ensures value { option_map prices_told result ≡ B.held board.old shipper place }
     ensures same { board.new ≡ board.old }
 {
     board.ask(shipper, place)
@@ -33,8 +33,8 @@ pub fn fix_and_ask<B: Fixing>(
     place: u32,
     evidence: B::Evidence,
 ) -> Result<Option<Prices>, Refusal>
-    ensures value { answer_told result ≡ fixed_prices (fix_bar shipper place (B.Asking.held board.old shipper place) (judged board.old shipper evidence)) (judged board.old shipper evidence) }
-    ensures held { (s p : ℕ) → B.Asking.held board.new s p ≡ held_after shipper place (B.Asking.held board.old) (judged board.old shipper evidence) s p }
+    ensures value { answer_told result ≡ fixed_prices (fix_bar shipper place (B.held board.old shipper place) (B.judged board.old shipper evidence)) (B.judged board.old shipper evidence) }
+    ensures held { (s p : ℕ) → B.held board.new s p ≡ held_after shipper place (B.held board.old) (B.judged board.old shipper evidence) s p }
 {
     board.fix(shipper, place, evidence)?;
     Ok(board.ask(shipper, place))
@@ -42,9 +42,9 @@ pub fn fix_and_ask<B: Fixing>(
 
 // Performs any list of fixings, some of them refused. What a pair held stays, and the board's rule too.
 pub fn fix_all<B: Fixing>(board: &mut B, requests: &[Request<B::Evidence>])
-    ensures held { (s p : ℕ) → B.Asking.held board.new s p ≡ held_through (B.Asking.held board.old) (judged board.old) requests.now s p }
-    ensures kept { (s p : ℕ) → is_some (B.Asking.held board.old s p) ≡ true → B.Asking.held board.new s p ≡ B.Asking.held board.old s p }
-    ensures rule { (s : ℕ) (e : B.Evidence) → judged board.new s e ≡ judged board.old s e }
+    ensures held { (s p : ℕ) → B.held board.new s p ≡ held_through (B.held board.old) (B.judged board.old) requests.now s p }
+    ensures kept { (s p : ℕ) → is_some (B.held board.old s p) ≡ true → B.held board.new s p ≡ B.held board.old s p }
+    ensures rule { (s : ℕ) (e : B.Evidence) → B.judged board.new s e ≡ B.judged board.old s e }
 {
     for request in requests {
         let _ = board.fix(request.shipper, request.place, request.evidence);

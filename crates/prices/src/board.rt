@@ -62,7 +62,7 @@ pub trait Fixing: Asking {
     ghost judged: { Self → ℕ → Self.Evidence → Option PricesTold };
 
     fn fix(&mut self, shipper: u32, place: u32, evidence: Self::Evidence) -> Result<(), Refusal>
-        ensures value { result ≡ ruling (fix_bar shipper place (Self.Asking.held self.old shipper place) (judged self.old shipper evidence)) }
-        ensures held { (s p : ℕ) → Self.Asking.held self.new s p ≡ held_after shipper place (Self.Asking.held self.old) (judged self.old shipper evidence) s p }
+        ensures value { result ≡ ruling (fix_bar shipper place (Self.held self.old shipper place) (judged self.old shipper evidence)) }
+        ensures held { (s p : ℕ) → Self.held self.new s p ≡ held_after shipper place (Self.held self.old) (judged self.old shipper evidence) s p }
         ensures rule { (s : ℕ) (e : Self.Evidence) → judged self.new s e ≡ judged self.old s e };
 }

@@ -10,4 +10,4 @@ invariant_of-result c =
     ∙ c.correction_heat-units.ensures.value
     ∙ ap (λ v. v *ℤ pos c.args.heat) (to_z-of_z w32 c.args.volume c.ranges.volume) in
     let few = correction_limit c.args.volume c.args.heat c.requires.volume c.requires.heat in
-    (subst (λ (z : ℤ). nat_abs z ≤ 120000000000) (sym units) few, tt)
+    record { few = subst (λ (z : ℤ). nat_abs z ≤ 120000000000) (sym units) few }

@@ -19,7 +19,7 @@ units_are c =
 pub invariant_of-result : goal.invariant_of-result
 invariant_of-result c =
     let few = day_limit c.args.hours.now c.args.heat c.requires.hours c.requires.heat in
-    (subst (λ (n : ℕ). n ≤ 120000000000) (sym (units_are c)) few, tt)
+    record { few = subst (λ (n : ℕ). n ≤ 120000000000) (sym (units_are c)) few }
 
 pub returns : goal.returns
 returns c = record { value = units_are (goal.at.returns c).After-unsigned_abs-units }
