@@ -1,5 +1,5 @@
 -- Floor division of an integer by a positive number: it is the one quotient whose remainder lies below the divisor.
-use Rattle.std.proofs.Common.{◌≡◌, ℕ, zero, suc, ◌+◌, ◌-◌, ◌*◌, ◌/◌, ◌%◌, ◌^◌, ◌<◌, ◌≤◌, ℤ, pos, negsuc, ◌+ℤ◌, ◌*ℤ◌, nat_abs, sym, refl, ap, subst, suc-mul, add-mul, mul-le-mul_left, zero-mul, arith, w64, SFits}
+use Rattle.std.proofs.Common.{◌≡◌, ℕ, ◌+◌, ◌-◌, ◌*◌, ◌/◌, ◌%◌, ◌^◌, ◌<◌, ◌≤◌, ℤ, pos, negsuc, ◌+ℤ◌, ◌*ℤ◌, nat_abs, sym, refl, ap, subst, suc-mul, add-mul, mul-le-mul_left, zero-mul, arith, w64, SFits}
 use borrow.Author.Differences.{ints, up, down}
 use Rattle.std.proofs.lemmas.Nat.{div-add-mod', div-mul-add, mod-mul-add, mod_below}
 use Rattle.std.specs.Int.{int_div_euclid, int_rem_euclid}

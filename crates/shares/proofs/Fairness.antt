@@ -1,5 +1,5 @@
 -- The laws of a month's shares, of the definitions alone.
-use Rattle.std.proofs.Common.{◌≡◌, ℕ, zero, suc, ◌*◌, ◌/◌, ◌<◌, ◌≤◌, Bool, true, false, cond, eqb, ltb, List, [], ◌∷◌, ℤ, pos, negsuc, ◌+ℤ◌, nat_abs, count_by, sym, refl, ap, ◌∙◌, subst, ⊎_elim, true≢false, arith, ltb-false, ltb-true, eq-eqb, eqb-true}
+use Rattle.std.proofs.Common.{◌≡◌, ℕ, zero, suc, ◌*◌, ◌/◌, ◌<◌, ◌≤◌, Bool, true, false, cond, eqb, List, [], ◌∷◌, ℤ, pos, negsuc, ◌+ℤ◌, nat_abs, count_by, sym, refl, ap, ◌∙◌, subst, ⊎_elim, true≢false, arith, ltb-false, ltb-true, eq-eqb, eqb-true}
 use borrow.Author.Differences.{ints}
 use borrow.Author.Tests.{eqb-false}
 use Rattle.std.proofs.ByRecursion.{All-weaker}

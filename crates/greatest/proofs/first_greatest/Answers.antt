@@ -1,4 +1,4 @@
-use Rattle.std.proofs.Common.{◌≡◌, ◌+◌, ◌<◌, false, eqb, length, sym, ◌∙◌, subst, arith}
+use Rattle.std.proofs.Common.{◌≡◌, ◌+◌, ◌<◌, length, sym, ◌∙◌, subst, arith}
 use borrow.Author.Tests.{eqb-false}
 use Rattle.std.specs.List.{IsFirstBest}
 use Rattle.greatest.specs.Greatest.{below}
