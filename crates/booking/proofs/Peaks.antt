@@ -1,7 +1,7 @@
 -- A day's hours: they are 24, and the greatest word stands where the greatest volume does, since all have one kind.
 use Rattle.std.proofs.Common.{◌≡◌, ℕ, ◌^◌, ltb, List, [], ◌∷◌, take, Option, unwrap_or, ap, arith}
 use Rattle.std.specs.Cmp.{nat_cmp_total}
-use Rattle.std.specs.List.{AllByRecursion as All}
+use Rattle.std.specs.List.{AllByRecursion}
 use Rattle.std.proofs.lemmas.Nat.{div-add-mod'}
 use Rattle.std.proofs.ByRecursion.{All-from_get_or}
 use Rattle.std.proofs.lemmas.List.{take_all}
@@ -12,7 +12,7 @@ use Rattle.tickets.specs.Words.{kind_of}
 use Rattle.tickets.specs.Reader.{SoundHours}
 use Rattle.booking.specs.Day.{less_gas, peak_hour}
 
-every : (xs : List ℕ) → All (λ _. Unit {0}) xs
+every : (xs : List ℕ) → AllByRecursion (λ _. Unit {0}) xs
 every [] = tt
 every (x ∷ xs) = (tt, every xs)
 
@@ -24,7 +24,7 @@ agrees x y p q = grind (arith, nat_tests, div-add-mod' x (2 ^ 28), div-add-mod' 
 
 pub peak_by_volume : (hours : List ℕ) → SoundHours hours → unwrap_or (first_greatest ltb hours) 0 ≡ peak_hour hours
 peak_by_volume hours sound =
-    let kinds : All (λ w. kind_of w ≡ 9) hours =
+    let kinds : AllByRecursion (λ w. kind_of w ≡ 9) hours =
     All-from_get_or (λ w. kind_of w ≡ 9) hours 0 (λ k h. sound.kinds k (omega (arith, sound.count))) in
     ap (λ (o : Option ℕ). unwrap_or o 0) (same_greatest ltb less_gas (λ w. kind_of w ≡ 9) agrees hours kinds)
 

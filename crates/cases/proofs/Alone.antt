@@ -3,7 +3,7 @@
 use Rattle.std.proofs.Common.{◌≡◌, ℕ, ◌+◌, true, false, cond, List, [], ◌∷◌, ◌++◌, length, Some, None, Option, sym, refl, ap, ◌∙◌, subst, ⊎_elim, true≢false, arith}
 use Rattle.std.proofs.lemmas.Bool.{cases_Bool}
 use Rattle.std.proofs.lemmas.Bool.Decides.{nat_tests}
-use Rattle.std.specs.List.{AllByRecursion as All}
+use Rattle.std.specs.List.{AllByRecursion}
 use Rattle.greatest.specs.Greatest.{greatest_from, first_greatest}
 use Rattle.rates.specs.Rates.{RateTold, lower_rate, passing, passing_at, if_passing, instigator_of}
 
@@ -35,13 +35,13 @@ module _ (rate : RateTold) where
   abbrev Lower : RateTold → Type 0
   Lower r = lower_rate r rate ≡ true
 
-  stays : (at i : ℕ) (after : List RateTold) → All Lower after → greatest_from lower_rate rate at i after ≡ at
+  stays : (at i : ℕ) (after : List RateTold) → AllByRecursion Lower after → greatest_from lower_rate rate at i after ≡ at
   stays at i [] all = refl
   stays at i (r ∷ rs) all =
       ap (λ b. cond b (greatest_from lower_rate r i (i + 1) rs) (greatest_from lower_rate rate at (i + 1) rs)) (not_above r rate all.0)
       ∙ stays at (i + 1) rs all.1
 
-  reached : (g : RateTold) (at i : ℕ) (before after : List RateTold) → Lower g → All Lower before → All Lower after →
+  reached : (g : RateTold) (at i : ℕ) (before after : List RateTold) → Lower g → AllByRecursion Lower before → AllByRecursion Lower after →
       greatest_from lower_rate g at i (before ++ rate ∷ after) ≡ i + length before
   reached g at i [] after low all rest =
       ap (λ b. cond b (greatest_from lower_rate rate i (i + 1) after) (greatest_from lower_rate g at (i + 1) after)) low
@@ -57,11 +57,11 @@ module _ (rate : RateTold) where
       ∙ on g at low ∙ omega arith)
       (cases_Bool (lower_rate g r))
 
-  found : (before after : List RateTold) → All Lower before → All Lower after → first_greatest lower_rate (before ++ rate ∷ after) ≡ Some (length before)
+  found : (before after : List RateTold) → AllByRecursion Lower before → AllByRecursion Lower after → first_greatest lower_rate (before ++ rate ∷ after) ≡ Some (length before)
   found [] after all rest = ap Some (stays 0 1 after rest)
   found (r ∷ rs) after all rest = ap Some (reached r 0 1 rs after all.0 all.1 rest ∙ omega arith)
 
-  pub sole_instigator : passing rate ≡ true → (before after : List RateTold) → All Lower before → All Lower after →
+  pub sole_instigator : passing rate ≡ true → (before after : List RateTold) → AllByRecursion Lower before → AllByRecursion Lower after →
       instigator_of (before ++ rate ∷ after) ≡ Some (length before)
   sole_instigator high before after all rest =
       ap (if_passing (before ++ rate ∷ after)) (found before after all rest)

@@ -1,6 +1,6 @@
 -- The worked cases: what the rules give at some figures.
 use Rattle.std.specs.Prelude.{◌≡◌, ℕ, ◌*◌, true, false, List, [], ◌∷◌, ◌++◌, map, length, ℤ, pos, negsuc, Some, codes, ◌≢◌}
-use Rattle.std.specs.List.{flat_map, AllByRecursion as All}
+use Rattle.std.specs.List.{flat_map, AllByRecursion}
 use Rattle.calendar.specs.Gregorian.{first_day}
 use Rattle.heat.specs.Split.{split_of}
 use Rattle.heat.specs.declared.split.Split.{Split}
@@ -46,8 +46,8 @@ pub record WorkedCases : Type 0 where
       share_of pool f ≡ record { imbalance = negsuc 0; carry = pos 0; settled = negsuc 0 }
   -- P 2,000: with D 2,100 a shipper is never the instigator, with D 2,101 it is when every other rate is smaller
   pub no_instigator : (before after : List RateTold) → instigator_of (before ++ rate_of 2000 2100 ∷ after) ≢ Some (length before)
-  pub instigates : (before after : List RateTold) → All (λ r. lower_rate r (rate_of 2000 2101) ≡ true) before →
-      All (λ r. lower_rate r (rate_of 2000 2101) ≡ true) after → instigator_of (before ++ rate_of 2000 2101 ∷ after) ≡ Some (length before)
+  pub instigates : (before after : List RateTold) → AllByRecursion (λ r. lower_rate r (rate_of 2000 2101) ≡ true) before →
+      AllByRecursion (λ r. lower_rate r (rate_of 2000 2101) ≡ true) after → instigator_of (before ++ rate_of 2000 2101 ∷ after) ≡ Some (length before)
   -- a price of each board
   pub indexed : index_prices 236 (record { lng = 6000; lpg = 9000; share = 75; tax = 260 }) ≡ Some (prices 5143 7246 9349)
   pub costed : cost_prices 4 0 (record { cost = 1000000; volume = 13333; customs = 6000 }) ≡ Some (prices 4200 7504 7800)

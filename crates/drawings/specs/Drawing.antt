@@ -1,4 +1,5 @@
 -- A month drawn from accounts.
+use Rattle.refusals.specs.Grounds.{refusal_at}
 use Rattle.std.specs.Prelude.{ℕ, ◌+◌, cond, List, [], ◌∷◌, length, Some, None, Ok, Err, Option, Result, nat_lt, slice_index_or}
 use Rattle.std.specs.Result.{result_map_both}
 use Rattle.refusals.specs.declared.Ground.TheVariants.{SheetShort, TicketMissing, PriceMissing, AccountLimit}
@@ -33,7 +34,7 @@ each answer n (x ∷ xs) = before (answer n x) (each answer (n + 1) xs)
 
 -- a shipper's figures with its prices, if they are held
 abbrev pub priced : ℕ → Option PricesTold → AccountTold → Result EntryTold Refusal
-priced shipper None account = Err (record { ground = PriceMissing; layer = Board; place = shipper })
+priced shipper None account = Err (refusal_at PriceMissing Board shipper)
 priced shipper (Some prices) account = Ok (record { figures = figures_told account; prices = prices })
 
 abbrev pub priced_at : (ℕ → ℕ → Option PricesTold) → ℕ → ℕ → AccountTold → Result EntryTold Refusal
@@ -47,7 +48,7 @@ priced_month held place accounts = each (priced_at held place) 0 accounts
 
 -- a shipper's account once its line is issued, unless a sum would pass its limit
 abbrev pub limited : ℕ → Option AccountTold → Result AccountTold Refusal
-limited shipper None = Err (record { ground = AccountLimit; layer = Book; place = shipper })
+limited shipper None = Err (refusal_at AccountLimit Book shipper)
 limited shipper (Some account) = Ok account
 
 abbrev pub issued_at : List Line → ℕ → AccountTold → Result AccountTold Refusal
@@ -61,7 +62,7 @@ issued_roll lines accounts = each (issued_at lines) 0 accounts
 
 abbrev pub unless_lacking : Option ℕ → Result (List AccountTold) Refusal → Result (List AccountTold) Refusal
 unless_lacking None drawing = drawing
-unless_lacking (Some shipper) drawing = Err (record { ground = TicketMissing; layer = Book; place = shipper })
+unless_lacking (Some shipper) drawing = Err (refusal_at TicketMissing Book shipper)
 
 abbrev pub issued_priced : ℕ → List AccountTold → Result (List EntryTold) Refusal → Result (List AccountTold) Refusal
 issued_priced percent accounts (Ok entries) = issued_roll (statement_of percent entries) accounts
@@ -71,7 +72,7 @@ issued_priced percent accounts (Err refusal) = Err refusal
 -- tickets of its days are in, all its prices are held, and no sum would pass its limit
 abbrev pub drawn_roll : (ℕ → ℕ → Option PricesTold) → ℕ → ℕ → ℕ → ℕ → List AccountTold → Result (List AccountTold) Refusal
 drawn_roll held place days percent long accounts =
-    cond (nat_lt long (length accounts)) (Err (record { ground = SheetShort; layer = Sheet; place = long }))
+    cond (nat_lt long (length accounts)) (Err (refusal_at SheetShort Sheet long))
     (unless_lacking (lacking days accounts) (issued_priced percent accounts (priced_month held place accounts)))
 
 abbrev pub sheet_of : ℕ → List Line → Result (List AccountTold) Refusal → Result (List EntryTold) Refusal → List Line

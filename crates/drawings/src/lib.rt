@@ -2,6 +2,7 @@
 // meaning.
 #![tactic(auto)]
 
+ghost use Rattle.refusals.specs.Grounds.{refusal_at};
 ghost use Rattle.std.specs.Prelude.{◌≡◌};
 
 pub mod drawn;
@@ -11,7 +12,7 @@ pub mod priced;
 use refusals::{Ground, Layer, Refusal};
 
 fn refused(ground: Ground, layer: Layer, place: usize) -> Refusal
-    ensures value { result ≡ record { ground = ground; layer = layer; place = place } }
+    ensures value { result ≡ refusal_at ground layer place }
 {
     Refusal {
         ground,

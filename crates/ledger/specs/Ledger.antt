@@ -1,4 +1,5 @@
 -- A posting entered in one account of the row.
+use Rattle.refusals.specs.Grounds.{refusal_at}
 use Rattle.std.specs.Prelude.{ℕ, ◌-◌, cond, List, length, ℤ, pos, Some, None, Ok, Err, Option, Result, nat_lt, slice_index_or, slice_set}
 use Rattle.std.specs.Option.{option_map}
 use Rattle.refusals.specs.declared.Ground.{Ground}
@@ -21,7 +22,7 @@ place_in None day = None
 place_in (Some month) day = cond (in_month month day) (Some (day - first_day month)) None
 
 abbrev pub refused_by : {R : Type 0} → Ground → ℕ → Result R Refusal
-refused_by ground place = Err (record { ground = ground; layer = Book; place = place })
+refused_by ground place = Err (refusal_at ground Book place)
 
 -- ---- one account of the row
 

@@ -1,4 +1,5 @@
 // A posting entered in one account of the row, or refused.
+ghost use Rattle.refusals.specs.Grounds.{refusal_at};
 ghost use Rattle.std.specs.Prelude.{◌≡◌};
 ghost use Rattle.refusals.specs.declared.Layer.TheVariants.{Book};
 ghost use Rattle.rolls.specs.Rolls.{roll_told};
@@ -14,7 +15,7 @@ use rolls::roll::Roll;
 use sides::Side;
 
 fn refused(ground: Ground, place: u32) -> Refusal
-    ensures value { result ≡ record { ground = ground; layer = Book; place = place } }
+    ensures value { result ≡ refusal_at ground Book place }
 {
     Refusal {
         ground,

@@ -27,7 +27,7 @@ prices_of low plain high =
 abbrev pub prices_text : Prices → List ℕ
 prices_text prices = decimal prices.low ++ (codes " " ++ (decimal prices.plain ++ (codes " " ++ decimal prices.high)))
 
-abbrev pub on_board : Ground → ℕ → Option Refusal
+abbrev pub on_board : (ground : Ground) → ℕ → Option Refusal
 on_board ground place = Some (record { ground = ground; layer = Board; place = place })
 
 -- prices that are held come before evidence that does not stand

@@ -3,7 +3,7 @@ use Rattle.std.proofs.Common.{◌≡◌, ℕ, zero, suc, ◌*◌, ◌<◌, ◌�
 use Rattle.std.proofs.ByRecursion.{All-from_get_or}
 use Rattle.std.proofs.lemmas.List.{get_or_default}
 use Rattle.std.proofs.lemmas.Bool.Decides.{nat_tests}
-use Rattle.std.specs.List.{AllByRecursion as All}
+use Rattle.std.specs.List.{AllByRecursion}
 use Rattle.greatest.specs.Greatest.{first_greatest, FirstGreatest}
 use Rattle.rates.specs.Rates.{cross, lower_rate, passing, passing_at, if_passing, instigator_of}
 use Rattle.rates.specs.declared.rate.Rate.{Rate}
@@ -45,7 +45,7 @@ low_below g x p l =
     grind (arith, nat_tests)
 
 pub none_passes : (rates : List Rate) (at : ℕ) → FirstGreatest lower_rate rates (Some at) → false ≡ passing_at at rates →
-    All (λ rate. passing rate ≡ false) rates
+    AllByRecursion (λ rate. passing rate ≡ false) rates
 none_passes [] at first p = tt
 none_passes (rate ∷ rates) at first p =
     let all = rate ∷ rates in
@@ -53,6 +53,6 @@ none_passes (rate ∷ rates) at first p =
     passing_at_lem all at (get_or all at rate) first.0 (get_or_default all at rate (get_or all at rate) first.0) ∙ sym p in
     All-from_get_or (λ r. passing r ≡ false) all rate (λ k h. low_below (get_or all at rate) (get_or all k rate) greatest (first.1 k rate h))
 
-pub no_rates : (rates : List Rate) → length rates ≡ 0 → All (λ rate. passing rate ≡ false) rates
+pub no_rates : (rates : List Rate) → length rates ≡ 0 → AllByRecursion (λ rate. passing rate ≡ false) rates
 no_rates [] e = tt
 no_rates (rate ∷ rates) e = absurd (omega arith)

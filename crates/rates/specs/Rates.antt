@@ -2,7 +2,7 @@
 use Rattle.std.specs.Prelude.{◌≡◌, ℕ, zero, suc, ◌+◌, ◌-◌, ◌*◌, Bool, true, false, cond, List, [], ◌∷◌, Some, None, Option, ◌==◌, nat_lt}
 use Rattle.std.specs.declared.cmp.Ordering.{Ordering}
 use Rattle.std.specs.Ordering.{is_lt, nat_cmp}
-use Rattle.std.specs.List.{AllByRecursion as All}
+use Rattle.std.specs.List.{AllByRecursion}
 use Rattle.greatest.specs.Greatest.{first_greatest, FirstGreatest}
 use Rattle.rates.specs.declared.rate.Rate.{Rate}
 
@@ -52,5 +52,5 @@ instigator_of rates = if_passing rates (first_greatest lower_rate rates)
 -- the same by comparison: where there is none, no rate is above a twentieth; where there is one, its rate is, no other
 -- is greater, and each before it is lower
 abbrev pub Instigator : List Rate → Option ℕ → Type 0
-Instigator rates None = All (λ rate. passing rate ≡ false) rates
+Instigator rates None = AllByRecursion (λ rate. passing rate ≡ false) rates
 Instigator rates (Some at) = (passing_at at rates ≡ true) × FirstGreatest lower_rate rates (Some at)

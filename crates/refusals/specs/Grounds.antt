@@ -31,6 +31,10 @@ layer_name Board = codes "board"
 layer_name Sheet = codes "sheet"
 layer_name Book = codes "book"
 
+-- a refusal of its three parts
+abbrev pub refusal_at : (ground : Ground) → Layer → ℕ → Refusal
+refusal_at ground layer place = record { ground = ground; layer = layer; place = place }
+
 -- `refused`, the number, the layer and the place, with one space between
 abbrev pub refusal_text : Refusal → List ℕ
 refusal_text refusal =

@@ -1,4 +1,5 @@
 -- The opening, and what a row of accounts tells.
+use Rattle.refusals.specs.Grounds.{refusal_at}
 use Rattle.std.specs.Prelude.{ℕ, ◌+◌, Bool, cond, ◌&&◌, ◌||◌, List, [], ◌∷◌, map, length, take, Some, None, Ok, Err, Option, Result, ◌==◌, nat_le, nat_lt}
 use Rattle.std.specs.Result.{result_map_both}
 use Rattle.refusals.specs.declared.Ground.TheVariants.{FigureLimits}
@@ -35,7 +36,7 @@ first_failing passes n (x ∷ xs) = cond (passes x) (first_failing passes (n + 1
 -- ---- the opening
 
 abbrev pub outside : {X : Type 0} → ℕ → Result X Refusal
-outside place = Err (record { ground = FigureLimits; layer = Book; place = place })
+outside place = Err (refusal_at FigureLimits Book place)
 
 -- the month, the heat and the tax, each within its limits
 abbrev pub terms_of : ℕ → ℕ → ℕ → Result TermsTold Refusal

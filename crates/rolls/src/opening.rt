@@ -1,4 +1,5 @@
 // The opening's figures: within their limits, or the first that is not is told.
+ghost use Rattle.refusals.specs.Grounds.{refusal_at};
 ghost use Rattle.std.specs.Prelude.{◌≡◌};
 ghost use Rattle.std.specs.Option.{option_map};
 ghost use Rattle.accounts.specs.Accounts.{account_told, opened_if};
@@ -21,7 +22,7 @@ pub struct Carries {
 }
 
 fn outside(place: usize) -> Refusal
-    ensures value { result ≡ record { ground = FigureLimits; layer = Book; place = place } }
+    ensures value { result ≡ refusal_at FigureLimits Book place }
 {
     Refusal {
         ground: Ground::FigureLimits,

@@ -5,7 +5,7 @@ use borrow.Author.Tests.{eqb-false}
 use Rattle.std.proofs.ByRecursion.{All-weaker}
 use Rattle.std.proofs.lemmas.List.Sums.{sum_by-cons}
 use Rattle.std.proofs.lemmas.Bool.{cases_Bool}
-use Rattle.std.specs.List.{AllByRecursion as All}
+use Rattle.std.specs.List.{AllByRecursion}
 use Rattle.shares.specs.Month.{imbalance, stirred, PoolTold, carry_size, with_sign, share_of, Fair, NoneStirred, AllCarryAll}
 use Rattle.shares.specs.declared.figures.Figures.{Figures}
 use Rattle.shares.proofs.Parts.{part_le}
@@ -37,7 +37,7 @@ none_stirred (f ∷ fs) e =
     let one : tally (stirred f) ≡ 0 = omega (arith, sum, e) in
     (⊎_elim (λ (t : stirred f ≡ true). absurd (let z : tally true ≡ 0 = ap tally (sym t) ∙ one in omega (arith, z))) (λ (t : stirred f ≡ false). t) (cases_Bool (stirred f)), none_stirred fs rest)
 
-every : {P : Figures → Type 0} → ((f : Figures) → P f) → (fs : List Figures) → All P fs
+every : {P : Figures → Type 0} → ((f : Figures) → P f) → (fs : List Figures) → AllByRecursion P fs
 every h [] = tt
 every h (f ∷ fs) = (h f, every h fs)
 
@@ -87,7 +87,7 @@ module _ (pool : PoolTold) (f : Figures) where
 
 module _ (fs : List Figures) (pool : PoolTold) (counted : pool.count ≡ count_by stirred fs) (some : pool.count ≤ pool.moved)
     (less : pool.carried ≤ pool.moved) where
-  pub all_fair : All (Fair pool) fs
+  pub all_fair : AllByRecursion (Fair pool) fs
   all_fair = ⊎_elim
       (λ (e : eqb pool.count 0 ≡ true).
       All-weaker (λ f. stirred f ≡ false) (Fair pool) (λ f t. fair_calm pool f e t) fs (none_stirred fs (sym counted ∙ eqb-true pool.count 0 e)))

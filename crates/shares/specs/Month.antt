@@ -1,6 +1,6 @@
 -- A month's imbalances, and how each is divided into gas carried and gas settled.
 use Rattle.std.specs.Prelude.{◌≡◌, ℕ, ◌*◌, ◌/◌, ◌≤◌, Bool, false, cond, List, ℤ, pos, negsuc, ◌+ℤ◌, ◌-ℤ◌, neg_ℤ, sum_by, count_by, ◌==◌, nat_lt, unsigned_abs}
-use Rattle.std.specs.List.{AllByRecursion as All}
+use Rattle.std.specs.List.{AllByRecursion}
 use Rattle.shares.specs.declared.figures.Figures.{Figures}
 use Rattle.shares.specs.declared.pool.Pool.{Pool}
 use Rattle.shares.specs.declared.pools.Share.{Share}
@@ -62,13 +62,13 @@ pub record Fair (pool : PoolTold) (f : Figures) : Type 0 where
   pub within : stirred f ≡ false → unsigned_abs (share_of pool f).carry ≤ unsigned_abs (imbalance f)
 
 abbrev pub NoneStirred : List Figures → Type 0
-NoneStirred fs = All (λ f. stirred f ≡ false) fs
+NoneStirred fs = AllByRecursion (λ f. stirred f ≡ false) fs
 
 abbrev pub AllCarryAll : PoolTold → List Figures → Type 0
-AllCarryAll pool fs = All (λ f. (share_of pool f).carry ≡ imbalance f) fs
+AllCarryAll pool fs = AllByRecursion (λ f. (share_of pool f).carry ≡ imbalance f) fs
 
 abbrev pub AllFair : List Figures → Type 0
-AllFair fs = All (Fair (pool_of fs)) fs
+AllFair fs = AllByRecursion (Fair (pool_of fs)) fs
 
 -- all carry their whole imbalance exactly when none is stirred
 abbrev pub CalmExactly : List Figures → Type 0

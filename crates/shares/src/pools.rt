@@ -1,7 +1,7 @@
 // The pool of a month, and each shipper's share by it.
 ghost use Rattle.std.specs.Prelude.{◌≡◌, ◌*◌, ◌/◌, ◌^◌, ◌<◌, ◌≤◌, if◌then◌else◌, unsigned_abs};
 ghost use Rattle.shares.specs.Month.{imbalance, stirred, of_stirred, pool_told, pool_of, with_sign, carry_size, share_of, Fair, NoneStirred, AllCarryAll};
-ghost use Rattle.std.specs.List.{AllByRecursion as All};
+ghost use Rattle.std.specs.List.{AllByRecursion};
 
 use super::figures::Figures;
 use super::pool::Pool;
@@ -47,7 +47,7 @@ fn stirring(f: Figures) -> Stir
 // The stirred shippers of a month.
 pub fn pool_of(figures: &[Figures]) -> Pool
     ensures value { pool_told result ≡ pool_of figures.now }
-    ensures fair { All (Fair (pool_of figures.now)) figures.now }
+    ensures fair { AllByRecursion (Fair (pool_of figures.now)) figures.now }
     ensures calm { (NoneStirred figures.now → AllCarryAll (pool_of figures.now) figures.now) × (AllCarryAll (pool_of figures.now) figures.now → NoneStirred figures.now) }
 {
     let mut count: u64 = 0;

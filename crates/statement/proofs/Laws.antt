@@ -1,6 +1,6 @@
 -- The laws of a month's shares, told of the lines of its statement.
 use Rattle.std.proofs.Common.{◌≡◌, ℕ, ◌+◌, false, List, [], ◌∷◌, Option}
-use Rattle.std.specs.List.{AllByRecursion as All}
+use Rattle.std.specs.List.{AllByRecursion}
 use Rattle.shares.specs.declared.figures.Figures.{Figures}
 use Rattle.shares.specs.Month.{imbalance, stirred, PoolTold, pool_of, share_of, Fair, AllFair, CalmExactly}
 use Rattle.statement.specs.Statement.{EntryTold, figures_of, line_of, lines_from, stirred_line, FairLine, FairLines, CalmLines}
@@ -8,12 +8,12 @@ use Rattle.statement.specs.declared.line.Line.{Line}
 
 module _ (pool : PoolTold) (instigator : Option ℕ) (percent : ℕ) where
   lines_from_lem : (P : Figures → Type 0) (Q : Line → Type 0) → ((k : ℕ) (e : EntryTold) → P e.figures → Q (line_of pool instigator percent k e)) →
-      (k : ℕ) (entries : List EntryTold) → All P (figures_of entries) → All Q (lines_from pool instigator percent k entries)
+      (k : ℕ) (entries : List EntryTold) → AllByRecursion P (figures_of entries) → AllByRecursion Q (lines_from pool instigator percent k entries)
   lines_from_lem P Q h k [] all = tt
   lines_from_lem P Q h k (e ∷ es) all = (h k e all.0, lines_from_lem P Q h (k + 1) es all.1)
 
   figures_from : (P : Figures → Type 0) (Q : Line → Type 0) → ((k : ℕ) (e : EntryTold) → Q (line_of pool instigator percent k e) → P e.figures) →
-      (k : ℕ) (entries : List EntryTold) → All Q (lines_from pool instigator percent k entries) → All P (figures_of entries)
+      (k : ℕ) (entries : List EntryTold) → AllByRecursion Q (lines_from pool instigator percent k entries) → AllByRecursion P (figures_of entries)
   figures_from P Q h k [] all = tt
   figures_from P Q h k (e ∷ es) all = (h k e all.0, figures_from P Q h (k + 1) es all.1)
 

@@ -1,6 +1,7 @@
 -- The statement of a month: a line for each shipper, in the order of their numbers.
+use Rattle.refusals.specs.Grounds.{refusal_at}
 use Rattle.std.specs.Prelude.{◌≡◌, ℕ, ◌+◌, ◌*◌, ◌≤◌, Bool, false, cond, List, [], ◌∷◌, ◌++◌, map, length, take, drop, pos, ◌+ℤ◌, Some, None, Option, ◌==◌, nat_lt, unsigned_abs}
-use Rattle.std.specs.List.{AllByRecursion as All}
+use Rattle.std.specs.List.{AllByRecursion}
 use Rattle.refusals.specs.declared.Ground.TheVariants.{SheetShort}
 use Rattle.refusals.specs.declared.Layer.TheVariants.{Sheet}
 use Rattle.refusals.specs.declared.Refusal.{Refusal}
@@ -95,7 +96,7 @@ no_line = record {
 
 -- the refusal that is due when so many lines are to go on a sheet of some length
 abbrev pub sheet_bar : ℕ → ℕ → Option Refusal
-sheet_bar lines long = cond (nat_lt long lines) (Some (record { ground = SheetShort; layer = Sheet; place = long })) None
+sheet_bar lines long = cond (nat_lt long lines) (Some (refusal_at SheetShort Sheet long)) None
 
 -- lines at the front of a sheet, whose rest stays; a sheet that is too short stays whole
 abbrev pub sheet_after : List Line → List Line → List Line
@@ -130,13 +131,13 @@ pub record FairLine (line : Line) : Type 0 where
   pub within : stirred_line line ≡ false → unsigned_abs line.carry ≤ unsigned_abs line.imbalance
 
 abbrev pub FairLines : List Line → Type 0
-FairLines lines = All FairLine lines
+FairLines lines = AllByRecursion FairLine lines
 
 abbrev pub NoLineStirred : List Line → Type 0
-NoLineStirred lines = All (λ line. stirred_line line ≡ false) lines
+NoLineStirred lines = AllByRecursion (λ line. stirred_line line ≡ false) lines
 
 abbrev pub EachCarriesAll : List Line → Type 0
-EachCarriesAll lines = All (λ line. line.carry ≡ line.imbalance) lines
+EachCarriesAll lines = AllByRecursion (λ line. line.carry ≡ line.imbalance) lines
 
 -- all carry their whole imbalance exactly when none is stirred
 abbrev pub CalmLines : List Line → Type 0

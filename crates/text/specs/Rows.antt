@@ -1,4 +1,5 @@
 -- Rows of figures as text, and what writing one into a buffer gives.
+use Rattle.refusals.specs.Grounds.{refusal_at}
 use Rattle.std.specs.Prelude.{ℕ, ◌+◌, Bool, cond, List, [], ◌∷◌, ◌++◌, length, take, drop, Ok, Err, decimal, Result, nat_le}
 use Rattle.std.specs.Fmt.{signed_decimal}
 use Rattle.refusals.specs.declared.Ground.TheVariants.{SheetShort}
@@ -36,7 +37,7 @@ fits figures size at = nat_le (at + length (row_text figures)) size
 abbrev pub row_answer : List Figure → ℕ → ℕ → Result ℕ Refusal
 row_answer figures size at =
     cond (fits figures size at) (Ok (at + length (row_text figures)))
-    (Err (record { ground = SheetShort; layer = Sheet; place = size }))
+    (Err (refusal_at SheetShort Sheet size))
 
 abbrev pub row_after : List Figure → List ℕ → ℕ → List ℕ
 row_after figures buffer at = cond (fits figures (length buffer) at) (placed at (row_text figures) buffer) buffer

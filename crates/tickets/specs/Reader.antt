@@ -66,7 +66,7 @@ passing Shape kind i word =
     cond (i == 0) (reserved_of word == 0) (kind_of word == body_number (body_kind (figure_at kind i)))
 passing Limits kind i word = cond (i == 0) true (within (figure_at kind i) word)
 
-abbrev pub refused_at : Ground → ℕ → Result Told Refusal
+abbrev pub refused_at : (ground : Ground) → ℕ → Result Told Refusal
 refused_at ground place = Err (record { ground = ground; layer = Words; place = place })
 
 -- wrong kinds and bits come before figures outside their limits
