@@ -1,1 +1,2 @@
 mod Instigators
+mod Told

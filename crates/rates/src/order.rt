@@ -1,10 +1,11 @@
 // Rates in their order, by cross products, and the instigator: the first holder of the greatest rate, if that is above
 // a twentieth.
-ghost use Rattle.std.specs.Prelude.{◌≡◌, Some, refl};
+ghost use Rattle.std.specs.Prelude.{◌≡◌, Some, refl, map};
 ghost use Rattle.rates.specs.Rates.{rate_told, rate_of, cross, rate_order, same_rate, passing, passing_at, instigator_of, Instigator};
 ghost use Rattle.std.specs.Cmp.Rules.{comparing};
 ghost use Rattle.std.proofs.Common.{rules, arith};
 ghost use Rattle.std.specs.Cmp.{partial_equiv_from_equiv, partial_order_from_agreeing_total};
+ghost use Rattle.rates.specs.Fractions.{instigator_told, InstigatorTold};
 ghost use Rattle.rates.specs.Orders.{rates_total, rates_same, same_tied};
 
 use super::rate::Rate;
@@ -94,6 +95,8 @@ fn passes_at(rates: &[Rate], at: usize) -> bool
 pub fn instigator(rates: &[Rate]) -> Option<usize>
     ensures value { result ≡ instigator_of rates.now }
     ensures who { Instigator rates.now result }
+    ensures told { result ≡ instigator_told (map rate_told rates.now) }
+    ensures who_told { InstigatorTold (map rate_told rates.now) result }
 {
     let Some(first) = first_greatest(rates) else {
         return None;
