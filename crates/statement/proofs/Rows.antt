@@ -1,8 +1,10 @@
 -- A sheet that is filled from its front by the lines of a statement.
-use Rattle.std.proofs.Common.{◌≡◌, ℕ, suc, ◌+◌, ◌<◌, ◌≤◌, List, [], ◌∷◌, ◌++◌, length, get_or, take, drop, set, Option, sym, refl, ap, ◌∙◌, append_assoc, arith}
+use Rattle.std.proofs.Common.{◌≡◌, ℕ, suc, ◌+◌, ◌<◌, ◌≤◌, List, [], ◌∷◌, ◌++◌, length, get_or, take, drop, set, Option, sym, refl, ap, subst, ◌∙◌, append_assoc, arith}
+use Rattle.std.proofs.ByRecursion.{All-get_or}
+use Rattle.std.specs.List.{AllByRecursion}
 use Rattle.std.proofs.lemmas.List.{take_more_set, at_drop_more, at_drop_all, append-nil, take-append-drop, length-take-le, length-map, get_or-map, get_or-take}
-use Rattle.shares.specs.Month.{PoolTold}
-use Rattle.statement.specs.Statement.{EntryTold, entry_told, entries_of, line_of, lines_from}
+use Rattle.shares.specs.Month.{PoolTold, Fair}
+use Rattle.statement.specs.Statement.{EntryTold, entry_told, entries_of, figures_of, line_of, lines_from}
 use Rattle.statement.specs.declared.line.Line.{Line}
 use Rattle.statement.specs.declared.month.Entry.{Entry}
 use Rattle.statement.specs.declared.month.Month.{Month}
@@ -45,3 +47,15 @@ module _ (pool : PoolTold) (instigator : Option ℕ) (percent : ℕ) (entries : 
       let front : take i sheet ≡ whole =
       sym (append-nil (take i sheet)) ∙ ap (λ back. take i sheet ++ back) (sym (at_drop_all (lines_from pool instigator percent i) entries i h)) ∙ e in
       sym (take-append-drop i sheet) ∙ (λ j. front j ++ same j)
+
+-- what is fair to all is fair to each
+pub fair_at : (pool : PoolTold) (month : Month) (i : ℕ) (x : Entry) → i < month.count →
+    AllByRecursion (Fair pool) (figures_of (entries_of month)) → Fair pool (get_or month.entries i x).figures
+fair_at pool month i x h all =
+    let entries = entries_of month in
+    let inside : i < length entries = omega (arith, h, entries_long month) in
+    let same : get_or (figures_of entries) i x.figures ≡ (get_or month.entries i x).figures =
+    get_or-map (λ (e : EntryTold). e.figures) entries i (entry_told x) x.figures inside
+    ∙ ap (λ (e : EntryTold). e.figures) (entry_at month i x h) in
+    let figured : i < length (figures_of entries) = omega (arith, inside, length-map entries (λ (e : EntryTold). e.figures)) in
+    subst (Fair pool) same (All-get_or (Fair pool) (figures_of entries) i x.figures figured all)

@@ -4,7 +4,7 @@ use Rattle.refusals.specs.declared.Ground.TheVariants.{SheetShort}
 use Rattle.refusals.specs.declared.Layer.TheVariants.{Sheet}
 use Rattle.prices.specs.Board.{ruling}
 use Rattle.shares.specs.Month.{pool_of}
-use Rattle.rates.specs.Rates.{instigator_of}
+use Rattle.rates.specs.Fractions.{instigator_told}
 use Rattle.statement.specs.Statement.{entries_of, figures_of, rates_of, statement_of, sheet_bar, sheet_after}
 use Rattle.statement.specs.declared.line.Line.{Line}
 use Rattle.statement.specs.declared.month.Month.{Month}
@@ -16,7 +16,7 @@ module _ (month : Month) (percent : ℕ) (sheet : List Line) where
 
   pub statement_long : length lines ≡ month.count
   statement_long =
-      lines_long (pool_of (figures_of (entries_of month))) (instigator_of (rates_of (entries_of month))) percent 0 (entries_of month) ∙ entries_long month
+      lines_long (pool_of (figures_of (entries_of month))) (instigator_told (rates_of (entries_of month))) percent 0 (entries_of month) ∙ entries_long month
 
   module _ (short : Bool) (is : ltb (length sheet) month.count ≡ short) where
     pub answered : ruling (cond short (Some (record { ground = SheetShort; layer = Sheet; place = length sheet })) None)

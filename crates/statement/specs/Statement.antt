@@ -9,7 +9,8 @@ use Rattle.prices.specs.Board.{PricesTold, prices_told}
 use Rattle.shares.specs.declared.figures.Figures.{Figures}
 use Rattle.shares.specs.declared.pools.Share.{Share}
 use Rattle.shares.specs.Month.{PoolTold, pool_of, share_of}
-use Rattle.rates.specs.Rates.{RateTold, rate_of, instigator_of}
+use Rattle.rates.specs.Rates.{RateTold, rate_of}
+use Rattle.rates.specs.Fractions.{instigator_told}
 use Rattle.settlement.specs.declared.PriceKind.{PriceKind}
 use Rattle.settlement.specs.declared.PriceKind.TheVariants.{Plain}
 use Rattle.settlement.specs.Settlement.{kind_number, kind_of, price_of, yen_of, tax_of}
@@ -77,7 +78,7 @@ lines_from pool instigator percent shipper (entry ∷ entries) =
 
 -- the whole statement, at a tax percentage
 abbrev pub statement_of : ℕ → List EntryTold → List Line
-statement_of percent entries = lines_from (pool_of (figures_of entries)) (instigator_of (rates_of entries)) percent 0 entries
+statement_of percent entries = lines_from (pool_of (figures_of entries)) (instigator_told (rates_of entries)) percent 0 entries
 
 -- what a sheet holds before anything is drawn on it
 abbrev pub no_line : Line

@@ -1,8 +1,10 @@
 // A month's statement, drawn on a lent sheet.
 ghost use Rattle.std.specs.Prelude.{◌≡◌, ◌^◌, ◌<◌, ◌≤◌, [], ◌++◌, map, length, drop, nat_lt, unsigned_abs};
 ghost use Rattle.prices.specs.Board.{ruling};
-ghost use Rattle.shares.specs.Month.{pool_told, pool_of, AllFair, CalmExactly};
-ghost use Rattle.rates.specs.Rates.{rate_told, instigator_of, Instigator};
+ghost use Rattle.shares.specs.Month.{pool_told, pool_of, share_of, Fair, AllFair, CalmExactly};
+ghost use Rattle.rates.specs.Rates.{rate_told};
+ghost use Rattle.rates.specs.Fractions.{instigator_told, InstigatorTold};
+ghost use Rattle.std.specs.List.{AllByRecursion};
 ghost use Rattle.settlement.specs.Settlement.{yen_of, tax_of};
 ghost use Rattle.statement.specs.Statement.{entry_told, entries_of, with_entry, figures_of, rate_of_figures, rates_of, is_found, line_of, lines_from, statement_of, sheet_bar, sheet_after, FairLines, CalmLines};
 
@@ -15,7 +17,7 @@ use refusals::{Ground, Layer, Refusal};
 use settlement::{PriceKind, tax, yen};
 use shares::figures::Figures;
 use shares::pool::Pool;
-use shares::pools::pool_of;
+use shares::pools::{Share, pool_of};
 
 fn is_found(instigator: Option<usize>, shipper: usize) -> bool
     ensures value { result ≡ is_found instigator shipper }
@@ -44,12 +46,30 @@ fn month_tax(yen: i64, percent: u8) -> i64
     tax(yen, percent) as i64
 }
 
+// How a shipper's imbalance is divided in a month that is fair to it.
+fn fair_share(pool: Pool, f: Figures) -> Share
+    requires { Fair (pool_told pool) f }
+    ensures value { result ≡ share_of (pool_told pool) f }
+    ensures carry { unsigned_abs result.carry ≤ 2 ^ 28 }
+    ensures settled { unsigned_abs result.settled ≤ 2 ^ 34 }
+{
+    pool.share(f)
+}
+
+fn narrow(carry: i64) -> i32
+    requires { unsigned_abs carry ≤ 2 ^ 28 }
+    ensures { result ≡ carry }
+{
+    carry as i32
+}
+
 // The line of one shipper.
 fn line(pool: Pool, instigator: Option<usize>, percent: u8, shipper: usize, entry: Entry) -> Line
-    requires { shipper < 16 }
+    requires shipper { shipper < 16 }
+    requires fair { Fair (pool_told pool) entry.figures }
     ensures value { result ≡ line_of (pool_told pool) instigator percent shipper (entry_told entry) }
 {
-    let share = pool.share(entry.figures);
+    let share = fair_share(pool, entry.figures);
     let kind = PriceKind::of(is_found(instigator, shipper), share.settled);
     let price = kind.price(entry.prices);
     let yen = month_yen(share.settled, price);
@@ -58,7 +78,7 @@ fn line(pool: Pool, instigator: Option<usize>, percent: u8, shipper: usize, entr
         receipts: entry.figures.receipts,
         deliveries: entry.figures.deliveries,
         imbalance: share.imbalance,
-        carry: share.carry,
+        carry: narrow(share.carry),
         settled: share.settled,
         kind,
         price,
@@ -134,8 +154,8 @@ impl Month {
     }
 
     fn instigator(&self) -> Option<usize>
-        ensures value { result ≡ instigator_of (rates_of (entries_of self.now)) }
-        ensures who { Instigator (rates_of (entries_of self.now)) result }
+        ensures value { result ≡ instigator_told (rates_of (entries_of self.now)) }
+        ensures who { InstigatorTold (rates_of (entries_of self.now)) result }
     {
         let rates = self.rates();
         instigator(&rates[0..self.count])
@@ -143,7 +163,8 @@ impl Month {
 
     // Writes a line for each shipper at the front of a sheet that is long enough.
     fn write(&self, pool: Pool, instigator: Option<usize>, percent: u8, sheet: &mut [Line])
-        requires { self.now.count ≤ length sheet.old }
+        requires room { self.now.count ≤ length sheet.old }
+        requires fair { AllByRecursion (Fair (pool_told pool)) (figures_of (entries_of self.now)) }
         ensures after { sheet.new ≡ lines_from (pool_told pool) instigator percent 0 (entries_of self.now) ++ drop self.now.count sheet.old }
     {
         for i in 0..self.count {
@@ -157,7 +178,7 @@ impl Month {
         ensures after { sheet.new ≡ sheet_after (statement_of percent (entries_of self.now)) sheet.old }
         ensures fair { FairLines (statement_of percent (entries_of self.now)) }
         ensures calm { CalmLines (statement_of percent (entries_of self.now)) }
-        ensures who { Instigator (rates_of (entries_of self.now)) (instigator_of (rates_of (entries_of self.now))) }
+        ensures who { InstigatorTold (rates_of (entries_of self.now)) (instigator_told (rates_of (entries_of self.now))) }
     {
         let pool = self.pool();
         let instigator = self.instigator();

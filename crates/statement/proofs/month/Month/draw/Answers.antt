@@ -1,5 +1,5 @@
 use Rattle.std.proofs.Common.{true, false, ◌++◌, length, drop, sym, ◌∙◌, subst, le-ltb, lt-ltb}
-use Rattle.rates.specs.Rates.{instigator_of, Instigator}
+use Rattle.rates.specs.Fractions.{instigator_told, InstigatorTold}
 use Rattle.statement.specs.Statement.{entries_of, rates_of, lines_from}
 use Rattle.statement.proofs.Laws.{fair_lines, calm_lines}
 use Rattle.statement.proofs.Sheets.{statement_long, answered, left_on_it}
@@ -14,9 +14,9 @@ returns-then-sheet-self c =
     record {
       value = answered month c.args.percent sheet true short;
       after = left_on_it month c.args.percent sheet true short;
-      fair = fair_lines (instigator_of (rates_of entries)) c.args.percent entries c.pool-pool.ensures.fair;
-      calm = calm_lines (instigator_of (rates_of entries)) c.args.percent entries c.pool-pool.ensures.calm;
-      who = subst (Instigator (rates_of entries)) c.instigator-instigator.ensures.value c.instigator-instigator.ensures.who;
+      fair = fair_lines (instigator_told (rates_of entries)) c.args.percent entries c.pool-pool.ensures.fair;
+      calm = calm_lines (instigator_told (rates_of entries)) c.args.percent entries c.pool-pool.ensures.calm;
+      who = subst (InstigatorTold (rates_of entries)) c.instigator-instigator.ensures.value c.instigator-instigator.ensures.who;
     }
 
 pub returns : goal.returns
@@ -32,7 +32,7 @@ returns c =
       after = c.write.ensures.after
           ∙ (λ j. lines_from (c.pool-pool.ensures.value j) (c.instigator-instigator.ensures.value j) percent 0 entries ++ drop (count j) sheet)
           ∙ left_on_it month percent sheet false fits;
-      fair = fair_lines (instigator_of (rates_of entries)) percent entries c.pool-pool.ensures.fair;
-      calm = calm_lines (instigator_of (rates_of entries)) percent entries c.pool-pool.ensures.calm;
-      who = subst (Instigator (rates_of entries)) c.instigator-instigator.ensures.value c.instigator-instigator.ensures.who;
+      fair = fair_lines (instigator_told (rates_of entries)) percent entries c.pool-pool.ensures.fair;
+      calm = calm_lines (instigator_told (rates_of entries)) percent entries c.pool-pool.ensures.calm;
+      who = subst (InstigatorTold (rates_of entries)) c.instigator-instigator.ensures.value c.instigator-instigator.ensures.who;
     }

@@ -2,8 +2,12 @@ use Rattle.std.proofs.Common.{◌≡◌, ℕ, ◌+◌, ◌<◌, ◌++◌, length
 use Rattle.std.proofs.lemmas.List.{drop-set-lt, drop-drop}
 use Rattle.shares.specs.Month.{pool_told}
 use Rattle.statement.specs.Statement.{EntryTold, entry_told, entries_of, lines_from, line_of}
-use Rattle.statement.proofs.Rows.{entries_long, entry_at, line_more, lines_all}
+use Rattle.statement.proofs.Rows.{entries_long, entry_at, fair_at, line_more, lines_all}
 use Rattle.statement.proofs.month.Month.write.Goals as goal
+
+pub line-requires-clause-fair : goal.line-requires-clause-fair
+line-requires-clause-fair c =
+    fair_at (pool_told c.args.pool) c.args.self.now c.loop-i.i c.index-self-i.result c.loop-i-test.true c.requires.fair
 
 pub loop-i-preserved : goal.loop-i-preserved
 loop-i-preserved c =
@@ -13,7 +17,7 @@ loop-i-preserved c =
     let sheet = c.loop-i.sheet in
     let d = c.index-self-i.result in
     let inside : i < length (entries_of month) = omega (arith, entries_long month, c.loop-i-test.true) in
-    let room : i < length sheet = omega (arith, c.loop-i-test.true, c.requires, c.loop-i.auto.sheet) in
+    let room : i < length sheet = omega (arith, c.loop-i-test.true, c.requires.room, c.loop-i.auto.sheet) in
     let at = entry_at month i d c.loop-i-test.true in (
       line_more pool c.args.instigator c.args.percent (entries_of month) sheet
           (lines_from pool c.args.instigator c.args.percent 0 (entries_of month)) i c.line.result (entry_told d) room inside
