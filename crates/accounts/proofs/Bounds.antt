@@ -1,5 +1,5 @@
 -- What a ticket can book, and what a month's days can come to.
-use Rattle.std.proofs.Common.{◌≡◌, ℕ, ◌+◌, ◌*◌, ◌/◌, ◌<◌, ◌≤◌, Bool, true, false, not, set, ℤ, pos, negsuc, ◌+ℤ◌, nat_abs, refl, mul-le-mul_left, arith, length-set}
+use Rattle.std.proofs.Common.{◌≡◌, ℕ, ◌+◌, ◌*◌, ◌/◌, ◌<◌, ◌≤◌, Bool, true, false, not, set, ℤ, pos, negsuc, ◌+ℤ◌, nat_abs, refl, mul-le-mul_left, arith, length, length-set}
 use borrow.Author.Differences.{ints}
 use Rattle.std.proofs.lemmas.Nat.{div-add-mod'}
 use Rattle.std.proofs.lemmas.List.Sums.{count_by-le-length}
@@ -30,12 +30,12 @@ booked_few heat left s h few below =
     let sum : nat_abs (heat +ℤ pos left) ≤ 120000005000 = omega (arith, ints) in quotient_few (heat +ℤ pos left) s h sum
 
 -- with a day more there are still no more marks than days
-pub day_more : (marks : DayMarks) (place : ℕ) → taken place marks.marks ≡ false →
+pub day_more : (marks : DayMarks) (place : ℕ) → length marks.marks ≡ 31 → taken place marks.marks ≡ false →
     (marked (set marks.marks place true) ≡ marked marks.marks + 1) × (marked marks.marks < 31)
-day_more marks place free =
+day_more marks place whole free =
     let more = marked_more marks.marks place free in
     let most = count_by-le-length (λ mark. mark) (set marks.marks place true) in
-    let long = length-set marks.marks place true in (more, omega (arith, more, most, long, marks.whole))
+    let long = length-set marks.marks place true in (more, omega (arith, more, most, long, whole))
 
 pub left_of : (a : Account) (side : Side) → side_of side a.remainders < 5000
 left_of a Receipts = a.left.0

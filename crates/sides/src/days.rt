@@ -1,5 +1,5 @@
 // Marks for the days of one month, by their place in the month from 0 on.
-ghost use Rattle.std.specs.Prelude.{◌≡◌, true, false, not, replicate, slice_index_or, slice_set};
+ghost use Rattle.std.specs.Prelude.{◌≡◌, true, false, not, length, replicate, slice_index_or, slice_set};
 ghost use Rattle.sides.specs.Days.{taken, all_marked};
 
 // The longest month's days.
@@ -41,6 +41,7 @@ impl DayMarks {
     // Whether a month can have the day, and it is not marked.
     pub fn is_free(&self, place: usize) -> bool
         ensures value { result ≡ not (taken place self.now.marks) }
+        ensures whole { length self.now.marks ≡ 31 }
     {
         place < LONGEST_MONTH && !self.marks[place]
     }

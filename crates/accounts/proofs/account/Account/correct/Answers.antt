@@ -31,22 +31,16 @@ invariant_of-self c =
     let sums = c.in-Some.sums in
     let summed = c.in-Some.ensures.value in
     let settled : to_z w64 (of_z w64 sums.settled) ≡ sums.settled = search rules in
-    let yen : to_z w64 (of_z w64 sums.yen) ≡ sums.yen = search rules in (
-      subst Below (sym c.put.ensures.after) (left_put a c.args.side c.split-split.result.remainder c.split-split.ensures.few.1),
-      (
-        a.flows,
-        (
-          a.plans,
-          (
-            (
-              subst (λ (z : ℤ). nat_abs z ≤ 10 ^ 12) (sym settled) summed.limits.0,
-              subst (λ (z : ℤ). nat_abs z ≤ 10 ^ 15) (sym yen) summed.limits.1,
-            ),
-            tt,
-          ),
-        ),
-      ),
-    )
+    let yen : to_z w64 (of_z w64 sums.yen) ≡ sums.yen = search rules in
+    record {
+      left = subst Below (sym c.put.ensures.after) (left_put a c.args.side c.split-split.result.remainder c.split-split.ensures.few.1);
+      flows = a.flows;
+      plans = a.plans;
+      limits = (
+        subst (λ (z : ℤ). nat_abs z ≤ 10 ^ 12) (sym settled) summed.limits.0,
+        subst (λ (z : ℤ). nat_abs z ≤ 10 ^ 15) (sym yen) summed.limits.1,
+      );
+    }
 
 pub returns : goal.returns
 returns c =

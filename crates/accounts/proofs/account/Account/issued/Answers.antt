@@ -7,8 +7,8 @@ pub returns : goal.returns
 returns c =
     let a = c.args.self.now in
     let line = c.args.line in
-    let sums = c.in-ok-sums.sums in
-    let summed = c.in-ok-sums.ensures.value in
+    let sums = c.in_ok-sums.sums in
+    let summed = c.in_ok-sums.ensures.value in
     let fits : over_by line.settled line.yen (account_told a) ≡ false = search rules in
     let older : to_z w32 (of_z w32 a.newer) ≡ a.newer = search rules in
     let newer : to_z w32 (of_z w32 line.carry) ≡ line.carry = search rules in

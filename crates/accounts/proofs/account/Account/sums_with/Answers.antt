@@ -6,8 +6,8 @@ use Rattle.accounts.proofs.account.Account.sums_with.Goals as goal
 pub returns : goal.returns
 returns c =
     let a = c.args.self.now in
-    let settled = c.in-ok-settled.settled in
-    let yen = c.in-ok-yen.yen in
+    let settled = c.in_ok-settled.settled in
+    let yen = c.in_ok-yen.yen in
     let s : Some settled ≡ sum_if (10 ^ 12) a.settled c.args.volume = search rules in
     let y : Some yen ≡ sum_if (10 ^ 15) a.yen c.args.yen = search rules in
     let sf = sum_fits (10 ^ 12) a.settled c.args.volume settled s in
@@ -20,8 +20,8 @@ returns c =
         settled = ss ∙ sf.is;
         yens = ys ∙ yf.is;
         limits = (
-          subst (λ (z : ℤ). nat_abs z ≤ 10 ^ 12) (sym ss) c.in-ok-settled.ensures.limit,
-          subst (λ (z : ℤ). nat_abs z ≤ 10 ^ 15) (sym ys) c.in-ok-yen.ensures.limit,
+          subst (λ (z : ℤ). nat_abs z ≤ 10 ^ 12) (sym ss) c.in_ok-settled.ensures.limit,
+          subst (λ (z : ℤ). nat_abs z ≤ 10 ^ 15) (sym ys) c.in_ok-yen.ensures.limit,
         );
       };
     }
