@@ -7,8 +7,9 @@ use Rattle.heat.specs.declared.split.Split.{Split}
 use Rattle.prices.specs.Board.{PricesTold}
 use Rattle.boards.specs.Rules.{index_prices, cost_prices}
 use Rattle.shares.specs.declared.figures.Figures.{Figures}
-use Rattle.shares.specs.Month.{imbalance, stirred, PoolTold, pool_of, share_of}
-use Rattle.rates.specs.Rates.{RateTold, rate_of, lower_rate, instigator_of}
+use Rattle.shares.specs.Month.{imbalance, stirred, pool_of, share_of}
+use Rattle.rates.specs.Rates.{RateTold, rate_of}
+use Rattle.rates.specs.Fractions.{lower_told, instigator_told}
 use Rattle.text.specs.Rows.{row_text}
 use Rattle.statement.specs.declared.line.Line.{Line}
 use Rattle.statement.specs.Statement.{EntryTold, figures_of, statement_of, line_figures}
@@ -40,14 +41,14 @@ pub record WorkedCases : Type 0 where
   -- R 1,000: an imbalance of 50 is not stirred, 51 is
   pub calm_at_twentieth : (f : Figures) → f.receipts ≡ 1000 → imbalance f ≡ pos 50 → stirred f ≡ false
   pub stirred_past_it : (f : Figures) → f.receipts ≡ 1000 → imbalance f ≡ pos 51 → stirred f ≡ true
-  -- R 0, imbalance −1: stirred, and in any month it carries 0 and settles −1
+  -- R 0, imbalance −1: stirred, and in any month that it is in it carries 0 and settles −1
   pub stirred_with_none : (f : Figures) → f.receipts ≡ 0 → imbalance f ≡ negsuc 0 → stirred f ≡ true
-  pub settles_all : (pool : PoolTold) (f : Figures) → f.receipts ≡ 0 → imbalance f ≡ negsuc 0 →
-      share_of pool f ≡ record { imbalance = negsuc 0; carry = pos 0; settled = negsuc 0 }
+  pub settles_all : (before after : List Figures) (f : Figures) → f.receipts ≡ 0 → imbalance f ≡ negsuc 0 →
+      share_of (pool_of (before ++ f ∷ after)) f ≡ record { imbalance = negsuc 0; carry = pos 0; settled = negsuc 0 }
   -- P 2,000: with D 2,100 a shipper is never the instigator, with D 2,101 it is when every other rate is smaller
-  pub no_instigator : (before after : List RateTold) → instigator_of (before ++ rate_of 2000 2100 ∷ after) ≢ Some (length before)
-  pub instigates : (before after : List RateTold) → AllByRecursion (λ r. lower_rate r (rate_of 2000 2101) ≡ true) before →
-      AllByRecursion (λ r. lower_rate r (rate_of 2000 2101) ≡ true) after → instigator_of (before ++ rate_of 2000 2101 ∷ after) ≡ Some (length before)
+  pub no_instigator : (before after : List RateTold) → instigator_told (before ++ rate_of 2000 2100 ∷ after) ≢ Some (length before)
+  pub instigates : (before after : List RateTold) → AllByRecursion (λ r. lower_told r (rate_of 2000 2101) ≡ true) before →
+      AllByRecursion (λ r. lower_told r (rate_of 2000 2101) ≡ true) after → instigator_told (before ++ rate_of 2000 2101 ∷ after) ≡ Some (length before)
   -- a price of each board
   pub indexed : index_prices 236 (record { lng = 6000; lpg = 9000; share = 75; tax = 260 }) ≡ Some (prices 5143 7246 9349)
   pub costed : cost_prices 4 0 (record { cost = 1000000; volume = 13333; customs = 6000 }) ≡ Some (prices 4200 7504 7800)
