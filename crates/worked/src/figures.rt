@@ -117,3 +117,12 @@ fn text_of_a_refusal(rt: HostRuntime) -> Result<(), Fail> {
     );
     Ok(())
 }
+
+#[test]
+fn days_that_are_free(rt: HostRuntime) {
+    let mut marks = DayMarks::none();
+    assert!(rt; marks.is_free(0) && marks.is_free(30) && !marks.is_free(31));
+    marks.mark(0);
+    assert!(rt; !marks.is_free(0) && marks.is_free(1));
+    assert!(rt; marks.has_all(1) && !marks.has_all(2));
+}

@@ -2,6 +2,8 @@
 #![tactic(auto)]
 
 mod line;
+#[cfg(test)]
+mod months;
 
 use anyhow::anyhow;
 use boards::index::{IndexBoard, IndexEvidence};
