@@ -21,7 +21,7 @@ abbrev pub place_in : Option ℕ → ℕ → Option ℕ
 place_in None day = None
 place_in (Some month) day = cond (in_month month day) (Some (day - first_day month)) None
 
-abbrev pub refused_by : {R : Type 0} → Ground → ℕ → Result R Refusal
+abbrev pub refused_by : {R : Type 0} → (ground : Ground) → ℕ → Result R Refusal
 refused_by ground place = Err (refusal_at ground Book place)
 
 -- ---- one account of the row
