@@ -32,8 +32,8 @@ pub fn draw<B: Asking>(
     percent: u8,
     sheet: &mut [Line],
 ) -> Result<Roll, Refusal>
-    ensures value { roll_outcome result ≡ drawn_roll (B.Asking.held board.now) place days percent (length sheet.old) (roll_told roll.now) }
-    ensures after { sheet.new ≡ drawn_sheet (B.Asking.held board.now) place days percent sheet.old (roll_told roll.now) }
+    ensures value { roll_outcome result ≡ drawn_roll (B.held board.now) place days percent (length sheet.old) (roll_told roll.now) }
+    ensures after { sheet.new ≡ drawn_sheet (B.held board.now) place days percent sheet.old (roll_told roll.now) }
 {
     if sheet.len() < roll.count {
         return Err(refused(Ground::SheetShort, Layer::Sheet, sheet.len()));

@@ -11,7 +11,7 @@ use statement::month::{Entry, Month};
 
 // The month of these accounts at a place in the year; the lowest shipper whose price isn't held is told.
 pub fn priced_month<B: Asking>(roll: &Roll, board: &B, place: u32) -> Result<Month, Refusal>
-    ensures value { month_outcome result ≡ priced_month (B.Asking.held board.now) place (roll_told roll.now) }
+    ensures value { month_outcome result ≡ priced_month (B.held board.now) place (roll_told roll.now) }
 {
     let mut month = Month::new();
     for i in 0..roll.count {
