@@ -1,5 +1,5 @@
 -- A shipper's account by value, and what each call makes of it.
-use Rattle.std.specs.Prelude.{◌≡◌, ℕ, ◌+◌, ◌^◌, ◌≤◌, Bool, true, false, cond, ◌&&◌, ◌||◌, List, replicate, ℤ, pos, ◌+ℤ◌, neg_ℤ, Some, None, Option, nat_le, nat_lt, slice_set, unsigned_abs}
+use Rattle.std.specs.Prelude.{ℕ, ◌+◌, ◌^◌, Bool, true, false, cond, ◌&&◌, ◌||◌, List, replicate, ℤ, pos, ◌+ℤ◌, neg_ℤ, Some, None, Option, nat_le, nat_lt, slice_set, unsigned_abs}
 use Rattle.sides.specs.declared.Side.{Side}
 use Rattle.sides.specs.declared.Side.TheVariants.{Receipts, Deliveries}
 use Rattle.sides.specs.declared.Pair.{Pair}
@@ -10,33 +10,8 @@ use Rattle.heat.specs.Split.{split_of}
 use Rattle.shares.specs.declared.figures.Figures.{Figures}
 use Rattle.settlement.specs.Settlement.{yen_of}
 use Rattle.statement.specs.declared.line.Line.{Line}
-use Rattle.accounts.specs.declared.account.Account.{Account}
+use Rattle.accounts.specs.Told.{AccountTold}
 use Rattle.accounts.specs.declared.settled.Correction.{Correction}
-use Rattle.accounts.specs.declared.settled.Sums.{Sums}
-
-pub record AccountTold : Type 0 where
-  pub remainders : Pair ℕ
-  pub volumes : Pair ℕ
-  pub metered : Pair (List Bool)
-  pub plan : ℕ
-  pub planned : List Bool
-  pub older : ℤ
-  pub newer : ℤ
-  pub settled : ℤ
-  pub yen : ℤ
-
-abbrev pub account_told : Account → AccountTold
-account_told a = record {
-  remainders = a.remainders;
-  volumes = a.volumes;
-  metered = record { receipts = a.metered.receipts.marks; deliveries = a.metered.deliveries.marks };
-  plan = a.plan;
-  planned = a.planned.marks;
-  older = a.older;
-  newer = a.newer;
-  settled = a.settled;
-  yen = a.yen;
-}
 
 abbrev pub twice : {T : Type 0} → T → Pair T
 twice value = record { receipts = value; deliveries = value }
@@ -64,13 +39,21 @@ opened older newer = record {
   yen = pos 0;
 }
 
+-- an account that nothing has reached
+abbrev pub blank : AccountTold
+blank = opened (pos 0) (pos 0)
+
+-- a carry-over within its limits
+abbrev pub allowed : ℤ → Option ℤ
+allowed carry = cond (carry_allowed carry) (Some carry) None
+
 abbrev pub opened_if : ℤ → ℤ → Option AccountTold
 opened_if older newer = cond (carry_allowed older && carry_allowed newer) (Some (opened older newer)) None
 
 -- ---- a day's metered gas
 
 -- heat with the remainder of its side
-abbrev pub split : ℕ → Side → ℤ → AccountTold → Split
+abbrev pub split : ℕ → Side → ℤ → AccountTold → Split ℤ
 split standard side heat a = split_of standard heat (side_of side a.remainders)
 
 abbrev pub with_day : ℕ → Side → ℕ → ℕ → AccountTold → AccountTold
@@ -108,6 +91,10 @@ with_plan place volume a = record {
   settled = a.settled;
   yen = a.yen;
 }
+
+-- the plan's volume, unless the day's plan is in
+abbrev pub plan_answered : ℕ → ℕ → AccountTold → Option ℕ
+plan_answered place volume a = cond (taken place a.planned) None (Some volume)
 
 abbrev pub after_plan : ℕ → ℕ → AccountTold → AccountTold
 after_plan place volume a = cond (taken place a.planned) a (with_plan place volume a)
@@ -152,12 +139,22 @@ correction_of standard side heat price a = correction_at side (split standard si
 abbrev pub over_by : ℤ → ℤ → AccountTold → Bool
 over_by settled yen a = passes (10 ^ 12) (a.settled +ℤ settled) || passes (10 ^ 15) (a.yen +ℤ yen)
 
--- sums that have taken up a volume and yen, within their limits
-pub record Summed (volume yen : ℤ) (a : AccountTold) (sums : Sums) : Type 0 where
-  pub fits : over_by volume yen a ≡ false
-  pub settled : sums.settled ≡ a.settled +ℤ volume
-  pub yens : sums.yen ≡ a.yen +ℤ yen
-  pub limits : (unsigned_abs sums.settled ≤ 10 ^ 12) × (unsigned_abs sums.yen ≤ 10 ^ 15)
+-- an account that has taken up a volume and yen
+abbrev pub with_sums : ℤ → ℤ → AccountTold → AccountTold
+with_sums volume yen a = record {
+  remainders = a.remainders;
+  volumes = a.volumes;
+  metered = a.metered;
+  plan = a.plan;
+  planned = a.planned;
+  older = a.older;
+  newer = a.newer;
+  settled = a.settled +ℤ volume;
+  yen = a.yen +ℤ yen;
+}
+
+abbrev pub settled_if : ℤ → ℤ → AccountTold → Option AccountTold
+settled_if volume yen a = cond (over_by volume yen a) None (Some (with_sums volume yen a))
 
 abbrev pub with_correction : ℕ → Side → ℤ → Correction → AccountTold → AccountTold
 with_correction standard side heat correction a = record {

@@ -1,9 +1,7 @@
 // A shipper's account, with what every call keeps.
-ghost use Rattle.std.specs.Prelude.{◌*◌, ◌^◌, ◌<◌, ◌≤◌, unsigned_abs};
-ghost use Rattle.sides.specs.Days.{marked};
-
 use sides::Pair;
 use sides::days::DayMarks;
+use std::marker::Model;
 
 #[derive(Clone, Copy)]
 pub struct Account {
@@ -21,10 +19,44 @@ pub struct Account {
     // since the opening, in m³ and yen
     pub settled: i64,
     pub yen: i64,
-    // a remainder is below the greatest standard heat
-    ghost left: { (remainders.receipts < 5000) × (remainders.deliveries < 5000) },
-    // a day brings at most 30,000,002 m³, and a day's plan at most 24,000,000
-    ghost flows: { (volumes.receipts ≤ 30000002 * marked metered.receipts.marks) × (volumes.deliveries ≤ 30000002 * marked metered.deliveries.marks) },
-    ghost plans: { plan ≤ 24000000 * marked planned.marks },
-    ghost limits: { (unsigned_abs settled ≤ 10 ^ 12) × (unsigned_abs yen ≤ 10 ^ 15) },
+}
+
+impl Model for Account {
+    ghost use Rattle.accounts.specs.Told.{AccountTold};
+
+    ghost Value = { AccountTold };
+
+    ghost use Rattle.accounts.specs.Fields.{told, untold, Sound};
+
+    ghost view = { told };
+
+    ghost invariant = { Sound };
+
+    ghost inverse = { untold };
+}
+
+// An account that nothing has reached.
+impl Default for Account {
+    ghost use Rattle.std.specs.Prelude.{◌≡◌};
+    ghost use Rattle.accounts.specs.Accounts.{blank};
+
+    ghost is_default = { λ account. account ≡ blank };
+
+    fn default() -> Account {
+        let none = DayMarks::none();
+        Account {
+            remainders: Pair::default(),
+            volumes: Pair::default(),
+            metered: Pair {
+                receipts: none,
+                deliveries: none,
+            },
+            plan: 0,
+            planned: none,
+            older: 0,
+            newer: 0,
+            settled: 0,
+            yen: 0,
+        }
+    }
 }

@@ -1,58 +1,45 @@
 // The open month of an account: its opening, its days and plans, and its figures.
-ghost use Rattle.std.specs.Prelude.{◌≡◌, ◌<◌, ◌≤◌, not, unsigned_abs};
-ghost use Rattle.std.specs.Option.{option_map};
-ghost use Rattle.sides.specs.Days.{taken};
-ghost use Rattle.accounts.specs.Accounts.{account_told, carry_allowed, opened_if, split, day_booked, after_day, after_plan, figures_told, all_in};
+ghost use Rattle.std.specs.Prelude.{◌≡◌, ◌<◌, ◌≤◌, unsigned_abs};
+ghost use Rattle.accounts.specs.Accounts.{allowed, opened_if, split, day_booked, after_day, plan_answered, after_plan, figures_told, all_in};
 
 use super::account::Account;
 use heat::split::Split;
 use heat::standard::StandardHeat;
 use postings::limits::{DayHeat, DayPlan};
 use shares::figures::Figures;
-use sides::days::DayMarks;
-use sides::{Pair, Side};
+use sides::Side;
 
 // The most of a carry-over at the opening, either sign, in m³.
 pub const MOST_CARRY: u64 = 46_500_000;
 
-fn carry_allowed(carry: i64) -> bool
-    ensures value { result ≡ carry_allowed carry }
+// A carry-over within its limits.
+fn allowed(carry: i64) -> Option<i32>
+    ensures value { result ≡ allowed carry }
 {
-    carry.unsigned_abs() <= MOST_CARRY
+    if carry.unsigned_abs() <= MOST_CARRY {
+        Some(carry as i32)
+    } else {
+        None
+    }
 }
 
 impl Account {
     // The account at the opening, if both carry-overs are within their limits.
     pub fn new(older: i64, newer: i64) -> Option<Account>
-        ensures value { option_map account_told result ≡ opened_if older newer }
+        ensures value { result ≡ opened_if older newer }
     {
-        if !(carry_allowed(older) && carry_allowed(newer)) {
-            return None;
-        }
-        let none = Pair {
-            receipts: 0,
-            deliveries: 0,
-        };
         Some(Account {
-            remainders: none,
-            volumes: none,
-            metered: Pair {
-                receipts: DayMarks::none(),
-                deliveries: DayMarks::none(),
-            },
-            plan: 0,
-            planned: DayMarks::none(),
-            older: older as i32,
-            newer: newer as i32,
-            settled: 0,
-            yen: 0,
+            older: allowed(older)?,
+            newer: allowed(newer)?,
+            ..Account::default()
         })
     }
 
-    // Heat divided with the remainder of its side.
-    pub(crate) fn split(&self, standard: StandardHeat, side: Side, heat: i64) -> Split
+    // Heat divided with the remainder of its side. The standard heat, the side and the heat go together through three calls,
+    // each with a heat of another type, so that one struct would not serve them.
+    pub(crate) fn split(&self, standard: StandardHeat, side: Side, heat: i64) -> Split<i64>
         requires { unsigned_abs heat ≤ 120000000000 }
-        ensures value { result ≡ split standard.units side heat (account_told self.now) }
+        ensures value { result ≡ split standard side heat self.now }
         ensures few { (unsigned_abs result.booked ≤ 30000002) × (result.remainder < 5000) }
     {
         standard.split(heat, self.remainders.get(side))
@@ -67,8 +54,8 @@ impl Account {
         place: usize,
         heat: DayHeat,
     ) -> Option<i64>
-        ensures value { result ≡ day_booked standard.units side place heat.units (account_told self.old) }
-        ensures after { account_told self.new ≡ after_day standard.units side place heat.units (account_told self.old) }
+        ensures value { result ≡ day_booked standard side place heat self.old }
+        ensures after { self.new ≡ after_day standard side place heat self.old }
     {
         let mut marks = self.metered.get(side);
         if !marks.is_free(place) {
@@ -83,22 +70,23 @@ impl Account {
         Some(split.booked)
     }
 
-    // Takes a day's plan; false, and no change, where the day's plan is in or a month has no such day.
-    pub fn plan(&mut self, place: usize, plan: DayPlan) -> bool
-        ensures value { result ≡ not (taken place self.old.planned.marks) }
-        ensures after { account_told self.new ≡ after_plan place plan.volume (account_told self.old) }
+    // Takes a day's plan, and answers its volume; none, and no change, where the day's plan is in or a month has no such
+    // day.
+    pub fn plan(&mut self, place: usize, plan: DayPlan) -> Option<u32>
+        ensures value { result ≡ plan_answered place plan self.old }
+        ensures after { self.new ≡ after_plan place plan self.old }
     {
         if !self.planned.is_free(place) {
-            return false;
+            return None;
         }
         self.plan += plan.volume;
         self.planned.mark(place);
-        true
+        Some(plan.volume)
     }
 
     // The month's figures so far.
     pub fn figures(&self) -> Figures
-        ensures value { result ≡ figures_told (account_told self.now) }
+        ensures value { result ≡ figures_told self.now }
     {
         Figures {
             receipts: self.volumes.receipts,
@@ -110,7 +98,7 @@ impl Account {
 
     // Whether the three tickets of each of a month's days are in.
     pub fn has_all(&self, days: usize) -> bool
-        ensures value { result ≡ all_in days (account_told self.now) }
+        ensures value { result ≡ all_in days self.now }
     {
         self.metered.receipts.has_all(days)
             && self.metered.deliveries.has_all(days)

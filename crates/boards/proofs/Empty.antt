@@ -1,12 +1,10 @@
--- A list of nothing but None holds nothing at any place.
-use Rattle.std.proofs.Common.{◌≡◌, ℕ, zero, suc, Bool, true, false, cond, get_or, replicate, None, refl, ap}
-use Rattle.std.specs.Option.{option_map}
+-- A table of rows that hold nothing holds nothing at any place.
+use Rattle.std.proofs.Common.{◌≡◌, ℕ, ◌<◌, List, [], get_or, replicate, None, Option, arith}
+use Rattle.std.proofs.lemmas.Bool.Decides.{nat_tests}
+use Rattle.std.proofs.lemmas.List.{get_or-replicate}
+use Rattle.prices.specs.Price.{PricesTold}
+use Rattle.boards.specs.Table.{table_held}
 
-get_or_same : {X : Type 0} (n k : ℕ) (x : X) → get_or (replicate n x) k x ≡ x
-get_or_same zero k x = refl
-get_or_same (suc n) zero x = refl
-get_or_same (suc n) (suc k) x = get_or_same n k x
-
-pub nothing_held : {X Y : Type 0} (f : X → Y) (b : Bool) (n k : ℕ) → cond b (option_map f (get_or (replicate n None) k None)) None ≡ None
-nothing_held f true n k = ap (option_map f) (get_or_same n k None)
-nothing_held f false n k = refl
+pub nothing_held : (rows : List (List (Option PricesTold))) → ((i : ℕ) → i < 16 → get_or rows i [] ≡ replicate 12 None) →
+    (s p : ℕ) → table_held (record { prices = rows }) s p ≡ None
+nothing_held rows all s p = grind (arith, nat_tests, all, get_or-replicate {A = Option PricesTold} 12 p None None)

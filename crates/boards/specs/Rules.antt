@@ -1,6 +1,6 @@
 -- The two price rules: the prices that evidence gives, in sen per m³, or none where it does not stand.
 use Rattle.std.specs.Prelude.{ℕ, ◌+◌, ◌-◌, ◌*◌, ◌/◌, ◌^◌, Bool, cond, ◌&&◌, None, Option, nat_le}
-use Rattle.prices.specs.Board.{PricesTold, prices_of}
+use Rattle.prices.specs.Price.{PricesTold, prices_of}
 use Rattle.boards.specs.declared.index.IndexEvidence.{IndexEvidence}
 use Rattle.boards.specs.declared.cost.CostEvidence.{CostEvidence}
 

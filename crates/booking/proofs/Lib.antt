@@ -1,2 +1,3 @@
 mod Products
-pub mod Peaks
+mod Peaks
+mod Limits

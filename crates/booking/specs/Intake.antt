@@ -19,7 +19,7 @@ abbrev pub remainders_of : List (Pair ℕ) → ℕ → Pair ℕ
 remainders_of all shipper = slice_index_or all shipper no_remainder
 
 -- heat booked with the remainder of its shipper and side
-abbrev pub booked : ℕ → List (Pair ℕ) → Side → ℕ → ℤ → Split
+abbrev pub booked : ℕ → List (Pair ℕ) → Side → ℕ → ℤ → Split ℤ
 booked standard all side shipper heat = split_of standard heat (side_of side (remainders_of all shipper))
 
 -- the new remainder, in its place

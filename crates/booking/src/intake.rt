@@ -1,19 +1,17 @@
 // The intake of tickets at one standard heat: it reads the words, books day tickets and corrections, and keeps both
 // remainders of each shipper.
-ghost use Rattle.std.specs.Prelude.{◌≡◌, ◌*◌, ◌<◌, replicate, pos, Some};
-ghost use Rattle.tickets.specs.Reader.{reads, SoundHours};
-ghost use Rattle.booking.specs.Day.{day_volume, peak_hour};
-ghost use Rattle.booking.specs.declared.intake.Booking.TheVariants.{Metered};
+ghost use Rattle.std.specs.Prelude.{◌≡◌, ◌<◌, replicate, Some};
+ghost use Rattle.tickets.specs.Reader.{reads};
 ghost use Rattle.booking.specs.Intake.{no_remainder, booked, kept_on, answered, kept, booking_text};
 
-use super::day::{correction_heat, day_heat, peak_hour};
+use super::day::{Hours, TicketHeat, correction_heat};
 use heat::standard::StandardHeat;
 use refusals::Refusal;
 use sides::{Pair, Side};
 use std::fmt;
 use tickets::reader::{Ticket, read};
 
-// Shippers that a header word can name.
+// Shippers that the four bits of a header word can name.
 pub const SHIPPERS: usize = 16;
 
 // What a ticket comes to.
@@ -30,78 +28,61 @@ pub enum Booking {
 #[derive(Drop)]
 pub struct Intake {
     standard: StandardHeat,
-    remainders: [Pair<u32>; 16],
+    remainders: [Pair<u32>; SHIPPERS],
 }
 
 impl Intake {
     // Nothing is left over at the start.
     pub fn new(standard: StandardHeat) -> Intake
-        ensures standard { result.standard.units ≡ standard.units }
+        ensures standard { result.standard ≡ standard }
         ensures remainders { result.remainders ≡ replicate 16 no_remainder }
     {
         Intake {
             standard,
-            remainders: [Pair {
-                receipts: 0,
-                deliveries: 0,
-            }; SHIPPERS],
+            remainders: [Pair::default(); SHIPPERS],
         }
     }
 
     // Books heat on one side of a shipper.
     fn book(&mut self, side: Side, shipper: u8, heat: i64) -> i64
         requires { shipper < 16 }
-        ensures value { result ≡ (booked self.old.standard.units self.old.remainders side shipper heat).booked }
+        ensures value { result ≡ (booked self.old.standard self.old.remainders side shipper heat).booked }
         ensures standard { self.new.standard ≡ self.old.standard }
-        ensures remainders { self.new.remainders ≡ kept_on self.old.standard.units self.old.remainders side shipper heat }
+        ensures remainders { self.new.remainders ≡ kept_on self.old.standard self.old.remainders side shipper heat }
     {
-        let mut remainders = self.remainders[shipper as usize];
-        let volume = self.standard.book(side, heat, &mut remainders);
-        self.remainders[shipper as usize] = remainders;
-        volume
-    }
-
-    // Books a day's hours.
-    fn meter(&mut self, side: Side, shipper: u8, heat: u16, hours: &[u32]) -> Booking
-        requires shipper { shipper < 16 }
-        requires hours { SoundHours hours.now }
-        ensures value { result ≡ Metered (booked self.old.standard.units self.old.remainders side shipper (pos (day_volume hours.now * heat))).booked (peak_hour hours.now) }
-        ensures standard { self.new.standard ≡ self.old.standard }
-        ensures remainders { self.new.remainders ≡ kept_on self.old.standard.units self.old.remainders side shipper (pos (day_volume hours.now * heat)) }
-    {
-        let volume = self.book(side, shipper, day_heat(hours, heat));
-        Booking::Metered {
-            volume,
-            peak: peak_hour(hours),
-        }
+        let remainders = &mut self.remainders[shipper as usize];
+        self.standard.book(side, heat, remainders)
     }
 
     // Takes one ticket; a refusal changes nothing.
     pub fn take(&mut self, words: &[u32]) -> Result<Booking, Refusal>
-        ensures value { result ≡ answered self.old.standard.units self.old.remainders (reads words.now) }
+        ensures value { result ≡ answered self.old.standard self.old.remainders (reads words.now) }
         ensures standard { self.new.standard ≡ self.old.standard }
-        ensures remainders { self.new.remainders ≡ kept self.old.standard.units self.old.remainders (reads words.now) }
+        ensures remainders { self.new.remainders ≡ kept self.old.standard self.old.remainders (reads words.now) }
     {
         match read(words)? {
             Ticket::Metered {
                 side,
                 shipper,
-                day: _,
                 heat,
                 hours,
-                place: _,
-            } => Ok(self.meter(side, shipper, heat, hours)),
-            Ticket::Planned {
-                shipper: _,
-                day: _,
-                volume,
-            } => Ok(Booking::Planned { volume }),
+                ..
+            } => {
+                let hours = Hours { words: hours };
+                let heat = hours.heat(TicketHeat { units: heat });
+                let volume = self.book(side, shipper, heat);
+                Ok(Booking::Metered {
+                    volume,
+                    peak: hours.peak(),
+                })
+            }
+            Ticket::Planned { volume, .. } => Ok(Booking::Planned { volume }),
             Ticket::Corrected {
                 side,
                 shipper,
-                month: _,
                 heat,
                 volume,
+                ..
             } => {
                 let volume = self.book(side, shipper, correction_heat(volume, heat));
                 Ok(Booking::Corrected { volume })

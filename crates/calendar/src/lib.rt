@@ -64,9 +64,8 @@ impl Month {
     pub fn holds(self, day: Day) -> bool
         ensures value { result ≡ in_month self.0 day.0 }
     {
-        match self.first_day() {
-            Some(first) if self.0 < MONTHS => first.0 <= day.0 && day.0 - first.0 < self.length(),
-            _ => false,
-        }
+        self.0 < MONTHS
+            && self.first_day().is_some_and(|first| first.0 <= day.0
+                && day.0 - first.0 < self.length())
     }
 }

@@ -1,20 +1,21 @@
 -- The worked cases: what the rules give at some figures.
-use Rattle.std.specs.Prelude.{◌≡◌, ℕ, ◌*◌, true, false, List, [], ◌∷◌, ◌++◌, map, length, ℤ, pos, negsuc, Some, codes, ◌≢◌}
-use Rattle.std.specs.List.{flat_map, AllByRecursion}
+use Rattle.std.specs.Prelude.{◌≡◌, ℕ, ◌*◌, Bool, true, false, List, [], ◌∷◌, ◌++◌, map, length, ℤ, pos, negsuc, Some, codes, ◌≢◌, nat_lt}
+use Rattle.std.specs.List.{flat_map, All}
 use Rattle.calendar.specs.Gregorian.{first_day}
 use Rattle.heat.specs.Split.{split_of}
 use Rattle.heat.specs.declared.split.Split.{Split}
-use Rattle.prices.specs.Board.{PricesTold}
+use Rattle.prices.specs.Price.{PricesTold}
 use Rattle.boards.specs.Rules.{index_prices, cost_prices}
 use Rattle.shares.specs.declared.figures.Figures.{Figures}
 use Rattle.shares.specs.Month.{imbalance, stirred, pool_of, share_of}
-use Rattle.rates.specs.Rates.{RateTold, rate_of}
-use Rattle.rates.specs.Fractions.{lower_told, instigator_told}
+use Rattle.rates.specs.Rates.{rate_of, lower_rate, instigator_of, greatest_if}
+use Rattle.rates.specs.declared.rate.Rate.{Rate}
 use Rattle.text.specs.Rows.{row_text}
 use Rattle.statement.specs.declared.line.Line.{Line}
-use Rattle.statement.specs.Statement.{EntryTold, figures_of, statement_of, line_figures}
+use Rattle.statement.specs.declared.month.Entry.{Entry}
+use Rattle.statement.specs.Statement.{figures_of, statement_of, line_figures}
 
-abbrev pub split : ℤ → ℕ → Split
+abbrev pub split : ℤ → ℕ → Split ℤ
 split booked remainder = record { booked = booked; remainder = remainder }
 
 abbrev pub prices : ℕ → ℕ → ℕ → PricesTold
@@ -24,10 +25,10 @@ prices low plain high = record { low = low; plain = plain; high = high }
 abbrev pub figures : ℕ → ℕ → ℕ → Figures
 figures receipts deliveries plan = record { receipts = receipts; deliveries = deliveries; plan = plan; brought = pos 0 }
 
-abbrev pub entry : Figures → EntryTold
+abbrev pub entry : Figures → Entry
 entry f = record { figures = f; prices = prices 5000 7001 9000 }
 
-abbrev pub worked_month : List EntryTold
+abbrev pub worked_month : List Entry
 worked_month = map entry (figures 1000 900 900 ∷ figures 2000 1800 1500 ∷ figures 3000 3041 3041 ∷ [])
 
 abbrev pub text_of : List Line → List ℕ
@@ -46,9 +47,12 @@ pub record WorkedCases : Type 0 where
   pub settles_all : (before after : List Figures) (f : Figures) → f.receipts ≡ 0 → imbalance f ≡ negsuc 0 →
       share_of (pool_of (before ++ f ∷ after)) f ≡ record { imbalance = negsuc 0; carry = pos 0; settled = negsuc 0 }
   -- P 2,000: with D 2,100 a shipper is never the instigator, with D 2,101 it is when every other rate is smaller
-  pub no_instigator : (before after : List RateTold) → instigator_told (before ++ rate_of 2000 2100 ∷ after) ≢ Some (length before)
-  pub instigates : (before after : List RateTold) → AllByRecursion (λ r. lower_told r (rate_of 2000 2101) ≡ true) before →
-      AllByRecursion (λ r. lower_told r (rate_of 2000 2101) ≡ true) after → instigator_told (before ++ rate_of 2000 2101 ∷ after) ≡ Some (length before)
+  pub no_instigator : (before after : List Rate) → instigator_of (before ++ rate_of 2000 2100 ∷ after) ≢ Some (length before)
+  -- nor is 100 of 2,000 the greatest above a twentieth among any fractions, in any order
+  pub at_twentieth : (lt : ℕ × ℕ → ℕ × ℕ → Bool) (before after : List (ℕ × ℕ)) →
+      greatest_if lt (λ f. nat_lt f.1 (20 * f.0)) (before ++ (100, 2000) ∷ after) ≢ Some (length before)
+  pub instigates : (before after : List Rate) → All (λ r. lower_rate r (rate_of 2000 2101) ≡ true) before →
+      All (λ r. lower_rate r (rate_of 2000 2101) ≡ true) after → instigator_of (before ++ rate_of 2000 2101 ∷ after) ≡ Some (length before)
   -- a price of each board
   pub indexed : index_prices 236 (record { lng = 6000; lpg = 9000; share = 75; tax = 260 }) ≡ Some (prices 5143 7246 9349)
   pub costed : cost_prices 4 0 (record { cost = 1000000; volume = 13333; customs = 6000 }) ≡ Some (prices 4200 7504 7800)

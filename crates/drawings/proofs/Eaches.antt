@@ -1,5 +1,5 @@
 -- One answer for each item, item by item: what is done, before what the rest gives, is the whole.
-use Rattle.std.proofs.Common.{◌≡◌, ℕ, ◌+◌, ◌<◌, ◌≤◌, List, [], ◌∷◌, ◌++◌, length, get_or, drop, Ok, Err, Result, sym, refl, ap, ◌∙◌, append_assoc}
+use Rattle.std.proofs.Common.{◌≡◌, ℕ, suc, ◌+◌, ◌<◌, ◌≤◌, List, [], ◌∷◌, ◌++◌, length, get_or, drop, Ok, Err, Result, sym, refl, ap, ◌∙◌, append_assoc, arith}
 use Rattle.std.proofs.lemmas.List.{at_drop_more, at_drop_all, append-nil}
 use Rattle.refusals.specs.declared.Refusal.{Refusal}
 use Rattle.drawings.specs.Drawing.{before, each}
@@ -32,3 +32,15 @@ module _ {X Y : Type 0} (answer : ℕ → X → Result Y Refusal) (xs : List X) 
 
   pub ends : length xs ≤ i → Ok done ≡ after done (rest i)
   ends h = ap Ok (sym (append-nil done)) ∙ ap (after done) (sym (at_drop_all (each answer i) xs i h))
+
+-- ---- as many answers as items
+before_long : {Y : Type 0} (one : Result Y Refusal) (rest : Result (List Y) Refusal) (n : ℕ) →
+    ((ys : List Y) → Ok ys ≡ rest → length ys ≡ n) → (ys : List Y) → Ok ys ≡ before one rest → length ys ≡ suc n
+before_long (Ok y) (Ok rest) n h ys e = let same : ys ≡ y ∷ rest = cc in ap length same ∙ ap suc (h rest refl)
+before_long (Ok y) (Err refusal) n h ys e = absurd (let no : ◌≡◌ {A = ℕ} 0 1 = cc in omega (arith, no))
+before_long (Err refusal) rest n h ys e = absurd (let no : ◌≡◌ {A = ℕ} 0 1 = cc in omega (arith, no))
+
+pub each_long : {X Y : Type 0} (answer : ℕ → X → Result Y Refusal) (n : ℕ) (xs : List X) (ys : List Y) → Ok ys ≡ each answer n xs →
+    length ys ≡ length xs
+each_long answer n [] ys e = let none : ys ≡ [] = cc in ap length none
+each_long answer n (x ∷ xs) ys e = before_long (answer n x) (each answer (n + 1) xs) (length xs) (each_long answer (n + 1) xs) ys e

@@ -1,3 +1,2 @@
 mod Eaches
 mod Lines
-mod Ways

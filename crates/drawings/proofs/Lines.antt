@@ -2,7 +2,8 @@
 use Rattle.std.proofs.Common.{◌≡◌, ℕ, zero, suc, ◌+◌, ◌-◌, ◌≤◌, Bool, false, cond, ltb, List, [], ◌∷◌, ◌++◌, length, get_or, drop, replicate, Result, refl, ap, ◌∙◌, le-ltb}
 use Rattle.std.proofs.lemmas.List.{drop-replicate}
 use Rattle.refusals.specs.declared.Refusal.{Refusal}
-use Rattle.accounts.specs.Accounts.{AccountTold, issued_if}
+use Rattle.accounts.specs.Told.{AccountTold}
+use Rattle.accounts.specs.Accounts.{issued_if}
 use Rattle.statement.specs.declared.line.Line.{Line}
 use Rattle.statement.specs.Statement.{no_line, sheet_after}
 use Rattle.drawings.specs.Drawing.{before, each, limited, issued_at, issued_roll}

@@ -5,19 +5,13 @@ use Rattle.std.specs.Result.{result_map_both}
 use Rattle.refusals.specs.declared.Ground.TheVariants.{SheetShort, TicketMissing, PriceMissing, AccountLimit}
 use Rattle.refusals.specs.declared.Layer.TheVariants.{Board, Sheet, Book}
 use Rattle.refusals.specs.declared.Refusal.{Refusal}
-use Rattle.prices.specs.Board.{PricesTold}
-use Rattle.accounts.specs.Accounts.{AccountTold, figures_told, issued_if}
+use Rattle.prices.specs.Price.{PricesTold}
+use Rattle.accounts.specs.Told.{AccountTold}
+use Rattle.accounts.specs.Accounts.{figures_told, issued_if}
 use Rattle.statement.specs.declared.line.Line.{Line}
-use Rattle.statement.specs.declared.month.Month.{Month}
-use Rattle.statement.specs.Statement.{EntryTold, entries_of, no_line, statement_of, sheet_after}
-use Rattle.rolls.specs.declared.roll.Roll.{Roll}
-use Rattle.rolls.specs.Rolls.{roll_told, lacking}
-
-abbrev pub month_outcome : Result Month Refusal → Result (List EntryTold) Refusal
-month_outcome answer = result_map_both entries_of (λ refusal. refusal) answer
-
-abbrev pub roll_outcome : Result Roll Refusal → Result (List AccountTold) Refusal
-roll_outcome answer = result_map_both roll_told (λ refusal. refusal) answer
+use Rattle.statement.specs.declared.month.Entry.{Entry}
+use Rattle.statement.specs.Statement.{no_line, statement_of, sheet_after}
+use Rattle.rolls.specs.Rolls.{lacking}
 
 -- ---- one answer for each
 
@@ -33,15 +27,15 @@ each answer n (x ∷ xs) = before (answer n x) (each answer (n + 1) xs)
 -- ---- prices
 
 -- a shipper's figures with its prices, if they are held
-abbrev pub priced : ℕ → Option PricesTold → AccountTold → Result EntryTold Refusal
+abbrev pub priced : ℕ → Option PricesTold → AccountTold → Result Entry Refusal
 priced shipper None account = Err (refusal_at PriceMissing Board shipper)
 priced shipper (Some prices) account = Ok (record { figures = figures_told account; prices = prices })
 
-abbrev pub priced_at : (ℕ → ℕ → Option PricesTold) → ℕ → ℕ → AccountTold → Result EntryTold Refusal
+abbrev pub priced_at : (ℕ → ℕ → Option PricesTold) → ℕ → ℕ → AccountTold → Result Entry Refusal
 priced_at held place shipper account = priced shipper (held shipper place) account
 
 -- the month of these accounts, at the prices held for a place in the year
-abbrev pub priced_month : (ℕ → ℕ → Option PricesTold) → ℕ → List AccountTold → Result (List EntryTold) Refusal
+abbrev pub priced_month : (ℕ → ℕ → Option PricesTold) → ℕ → List AccountTold → Result (List Entry) Refusal
 priced_month held place accounts = each (priced_at held place) 0 accounts
 
 -- ---- limits
@@ -64,7 +58,7 @@ abbrev pub unless_lacking : Option ℕ → Result (List AccountTold) Refusal →
 unless_lacking None drawing = drawing
 unless_lacking (Some shipper) drawing = Err (refusal_at TicketMissing Book shipper)
 
-abbrev pub issued_priced : ℕ → List AccountTold → Result (List EntryTold) Refusal → Result (List AccountTold) Refusal
+abbrev pub issued_priced : ℕ → List AccountTold → Result (List Entry) Refusal → Result (List AccountTold) Refusal
 issued_priced percent accounts (Ok entries) = issued_roll (statement_of percent entries) accounts
 issued_priced percent accounts (Err refusal) = Err refusal
 
@@ -75,7 +69,7 @@ drawn_roll held place days percent long accounts =
     cond (nat_lt long (length accounts)) (Err (refusal_at SheetShort Sheet long))
     (unless_lacking (lacking days accounts) (issued_priced percent accounts (priced_month held place accounts)))
 
-abbrev pub sheet_of : ℕ → List Line → Result (List AccountTold) Refusal → Result (List EntryTold) Refusal → List Line
+abbrev pub sheet_of : ℕ → List Line → Result (List AccountTold) Refusal → Result (List Entry) Refusal → List Line
 sheet_of percent sheet (Ok next) (Ok entries) = sheet_after (statement_of percent entries) sheet
 sheet_of percent sheet (Ok next) (Err refusal) = sheet
 sheet_of percent sheet (Err refusal) entries = sheet

@@ -1,24 +1,23 @@
 // The drawing of a month on a lent sheet, and the accounts that issuing it will make.
 ghost use Rattle.std.specs.Prelude.{◌≡◌, length};
-ghost use Rattle.rolls.specs.Rolls.{roll_told};
-ghost use Rattle.statement.specs.Statement.{entries_of, statement_of};
-ghost use Rattle.drawings.specs.Drawing.{roll_outcome, issued_roll, drawn_roll, drawn_sheet};
+ghost use Rattle.statement.specs.Statement.{statement_of};
+ghost use Rattle.drawings.specs.Drawing.{issued_roll, drawn_roll, drawn_sheet};
 
 use super::issuing::issued_roll;
 use super::priced::priced_month;
-use super::refused;
 use prices::board::Asking;
+use prices::slot::SHIPPERS;
 use refusals::{Ground, Layer, Refusal};
 use rolls::roll::Roll;
 use statement::line::{Line, NO_LINE};
-use statement::month::{Month, SHIPPERS};
+use statement::month::Month;
 
 // The accounts once the month's statement is issued.
 fn issued_month(roll: &Roll, month: &Month, percent: u8) -> Result<Roll, Refusal>
-    ensures value { roll_outcome result ≡ issued_roll (statement_of percent (entries_of month.now)) (roll_told roll.now) }
+    ensures value { result ≡ issued_roll (statement_of percent month.now) roll.now }
 {
     let mut lines = [NO_LINE; SHIPPERS];
-    let _ = month.draw(percent, &mut lines);
+    month.draw(percent, &mut lines)?;
     issued_roll(roll, &lines)
 }
 
@@ -32,23 +31,17 @@ pub fn draw<B: Asking>(
     percent: u8,
     sheet: &mut [Line],
 ) -> Result<Roll, Refusal>
-    ensures value { roll_outcome result ≡ drawn_roll (B.held board.now) place days percent (length sheet.old) (roll_told roll.now) }
-    ensures after { sheet.new ≡ drawn_sheet (B.held board.now) place days percent sheet.old (roll_told roll.now) }
+    ensures value { result ≡ drawn_roll (B.held board.now) place days percent (length sheet.old) roll.now }
+    ensures after { sheet.new ≡ drawn_sheet (B.held board.now) place days percent sheet.old roll.now }
 {
-    if sheet.len() < roll.count {
-        return Err(refused(Ground::SheetShort, Layer::Sheet, sheet.len()));
+    if sheet.len() < roll.accounts.len() {
+        return Err(Layer::Sheet.refuses(Ground::SheetShort, sheet.len() as u64));
     }
     if let Some(shipper) = roll.lacking(days) {
-        return Err(refused(Ground::TicketMissing, Layer::Book, shipper));
+        return Err(Layer::Book.refuses(Ground::TicketMissing, shipper as u64));
     }
-    let month = match priced_month(roll, board, place) {
-        Ok(month) => month,
-        Err(refusal) => return Err(refusal),
-    };
-    let next = match issued_month(roll, &month, percent) {
-        Ok(next) => next,
-        Err(refusal) => return Err(refusal),
-    };
-    let _ = month.draw(percent, sheet);
+    let month = priced_month(roll, board, place)?;
+    let next = issued_month(roll, &month, percent)?;
+    month.draw(percent, sheet)?;
     Ok(next)
 }

@@ -2,21 +2,6 @@
 // meaning.
 #![tactic(auto)]
 
-ghost use Rattle.refusals.specs.Grounds.{refusal_at};
-ghost use Rattle.std.specs.Prelude.{◌≡◌};
-
 pub mod drawn;
 pub mod issuing;
 pub mod priced;
-
-use refusals::{Ground, Layer, Refusal};
-
-fn refused(ground: Ground, layer: Layer, place: usize) -> Refusal
-    ensures value { result ≡ refusal_at ground layer place }
-{
-    Refusal {
-        ground,
-        layer,
-        place: place as u64,
-    }
-}

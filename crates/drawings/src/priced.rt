@@ -1,25 +1,30 @@
 // The month that a row of accounts makes with the prices that a board holds.
 ghost use Rattle.std.specs.Prelude.{◌≡◌};
-ghost use Rattle.rolls.specs.Rolls.{roll_told};
-ghost use Rattle.drawings.specs.Drawing.{month_outcome, priced_month};
+ghost use Rattle.drawings.specs.Drawing.{priced_month};
 
-use super::refused;
 use prices::board::Asking;
+use prices::slot::Slot;
 use refusals::{Ground, Layer, Refusal};
 use rolls::roll::Roll;
 use statement::month::{Entry, Month};
 
 // The month of these accounts at a place in the year; the lowest shipper whose price isn't held is told.
 pub fn priced_month<B: Asking>(roll: &Roll, board: &B, place: u32) -> Result<Month, Refusal>
-    ensures value { month_outcome result ≡ priced_month (B.held board.now) place (roll_told roll.now) }
+    ensures value { result ≡ priced_month (B.held board.now) place roll.now }
 {
     let mut month = Month::new();
-    for i in 0..roll.count {
-        let Some(prices) = board.ask(i as u32, place) else {
-            return Err(refused(Ground::PriceMissing, Layer::Board, i));
+    for (i, account) in roll.accounts.iter().enumerate() {
+        let slot = Slot {
+            shipper: i as u32,
+            place,
         };
-        let figures = roll.accounts[i].figures();
-        let _ = month.add(Entry { figures, prices });
+        let prices = board
+            .ask(slot)
+            .ok_or(Layer::Board.refuses(Ground::PriceMissing, i as u64))?;
+        let _ = month.add(Entry {
+            figures: account.figures(),
+            prices,
+        });
     }
     Ok(month)
 }

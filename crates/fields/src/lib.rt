@@ -1,8 +1,8 @@
 // Fields of text into figures (docs/TICKETS.md, "As text"), on the bytes where they lie.
 #![tactic(auto)]
 
-ghost use Rattle.std.specs.Prelude.{◌≡◌, ◌^◌, ◌≤◌, true, length, pos, neg_ℤ, IfSome};
-ghost use Rattle.fields.specs.Numbers.{digit_of, with_digit, number_of, starts_negative, integer_of};
+ghost use Rattle.std.specs.Prelude.{◌≡◌, ◌≤◌, IfSome};
+ghost use Rattle.fields.specs.Numbers.{digit_of, with_digit, number_of, integer_of};
 
 // The base in which a number is written.
 #[derive(Clone, Copy)]
@@ -11,6 +11,7 @@ pub enum Base {
     Hexadecimal = 16,
 }
 
+// Not `to_digit` of a `char`: the ranges show which letters count, and what each is worth.
 fn digit(base: Base, byte: u8) -> Option<u8>
     ensures value { result ≡ digit_of base byte }
 {
@@ -27,13 +28,9 @@ fn with_digit(base: Base, most: u64, number: u64, byte: u8) -> Option<u64>
     ensures value { result ≡ with_digit base most number (digit_of base byte) }
     ensures bound { IfSome result (λ n. n ≤ most) }
 {
-    let digit = digit(base, byte)?;
-    let next = u128::from(number) * (base as u128) + u128::from(digit);
-    if next <= u128::from(most) {
-        Some(next as u64)
-    } else {
-        None
-    }
+    let digit = u64::from(digit(base, byte)?);
+    let next = number.checked_mul(base as u64)?.checked_add(digit)?;
+    (next <= most).then_some(next)
 }
 
 // The number that the digits of a field write; none where there is no digit, something else than digits, or a number
@@ -47,52 +44,25 @@ pub fn number(field: &[u8], base: Base, most: u64) -> Option<u64>
     }
     let mut number = 0;
     for byte in field {
-        let Some(next) = with_digit(base, most, number, *byte) else {
-            return None;
-        };
-        number = next;
+        number = with_digit(base, most, number, *byte)?;
     }
     Some(number)
 }
 
 // The same for numbers of 32 bits.
+// One function of any type is no plainer: its contract would need a trait that names the greatest number of each.
 pub fn number32(field: &[u8], base: Base) -> Option<u32>
     ensures value { result ≡ number_of base 4294967295 field.now }
 {
-    match number(field, base, u64::from(u32::MAX)) {
-        Some(number) => Some(number as u32),
-        None => None,
-    }
-}
-
-// Whether a field begins with a minus.
-fn is_negative(field: &[u8]) -> bool
-    ensures value { result ≡ starts_negative field.now }
-    ensures some { result ≡ true → 1 ≤ length field.now }
-{
-    field.len() > 0 && field[0] == b'-'
-}
-
-fn negated(size: u64) -> i64
-    requires { size ≤ 2 ^ 63 }
-    ensures value { result ≡ neg_ℤ (pos size) }
-{
-    (-(size as i128)) as i64
+    u32::try_from(number(field, base, u64::from(u32::MAX))?).ok()
 }
 
 // The number of 64 bits with a sign that a field writes in decimal, with a minus before it where it is negative.
 pub fn integer(field: &[u8]) -> Option<i64>
     ensures value { result ≡ integer_of field.now }
 {
-    if is_negative(field) {
-        match number(&field[1..field.len()], Base::Decimal, 1 << 63) {
-            Some(size) => Some(negated(size)),
-            None => None,
-        }
-    } else {
-        match number(field, Base::Decimal, (1 << 63) - 1) {
-            Some(size) => Some(size as i64),
-            None => None,
-        }
+    match field {
+        [b'-', size @ ..] => 0i64.checked_sub_unsigned(number(size, Base::Decimal, 1 << 63)?),
+        _ => i64::try_from(number(field, Base::Decimal, (1 << 63) - 1)?).ok(),
     }
 }

@@ -1,22 +1,20 @@
 -- What a board holds after fixings, of its meaning alone.
-use Rattle.std.specs.Prelude.{ℕ, List, [], ◌∷◌, Some, None, Ok, Err, Option, Result}
-use Rattle.std.specs.Option.{option_map}
+use Rattle.std.specs.Prelude.{ℕ, List, Some, None, Ok, Err, Option, Result}
+use Rattle.std.specs.List.{fold}
 use Rattle.refusals.specs.declared.Refusal.{Refusal}
-use Rattle.prices.specs.declared.price.Prices.{Prices}
-use Rattle.prices.specs.Board.{PricesTold, prices_told, held_after}
+use Rattle.prices.specs.Price.{PricesTold}
+use Rattle.prices.specs.Board.{held_after}
 use Rattle.fixings.specs.declared.Request.{Request}
-
-abbrev pub answer_told : Result (Option Prices) Refusal → Result (Option PricesTold) Refusal
-answer_told (Ok prices) = Ok (option_map prices_told prices)
-answer_told (Err refusal) = Err refusal
 
 -- the refusal that is due, or else the prices that the evidence gives
 abbrev pub fixed_prices : Option Refusal → Option PricesTold → Result (Option PricesTold) Refusal
 fixed_prices None judged = Ok judged
 fixed_prices (Some refusal) judged = Err refusal
 
+-- what a board holds after one fixing, by a rule that stays
+abbrev pub fixed_more : {E : Type 0} → (ℕ → E → Option PricesTold) → (ℕ → ℕ → Option PricesTold) → Request E → ℕ → ℕ → Option PricesTold
+fixed_more judged held request = held_after request.slot held (judged request.slot.shipper request.evidence)
+
 -- one fixing after the other
 abbrev pub held_through : {E : Type 0} → (ℕ → ℕ → Option PricesTold) → (ℕ → E → Option PricesTold) → List (Request E) → ℕ → ℕ → Option PricesTold
-held_through held judged [] = held
-held_through held judged (request ∷ requests) =
-    held_through (held_after request.shipper request.place held (judged request.shipper request.evidence)) judged requests
+held_through held judged requests = fold (fixed_more judged) held requests

@@ -1,2 +1,2 @@
-mod Turns
+mod Chains
 pub mod Tests

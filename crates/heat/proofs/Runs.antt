@@ -3,7 +3,6 @@ use Rattle.std.proofs.Common.{◌≡◌, ℕ, ◌+◌, ◌<◌, ◌≤◌, List,
 use borrow.Author.Differences.{ints}
 use Rattle.std.proofs.lemmas.List.{at_drop_more, at_drop_all}
 use Rattle.heat.specs.Split.{split_of, run_of, whole_run, total}
-use Rattle.heat.specs.declared.split.Run.{Run}
 use Rattle.heat.specs.declared.split.Split.{Split}
 use Rattle.heat.proofs.Floor.{over_sum, floors, whole}
 
@@ -28,13 +27,13 @@ module _ (s : ℕ) (heats : List ℤ) (start i : ℕ) (booked : ℤ) (left : ℕ
         rest = sym (at_drop_more (λ hs. (run_of s hs left).remainder) heats i (pos 0) h) ∙ kept.rest;
       }
 
-  pub kept_more : (split : Split) (sum : ℤ) → i < length heats → split ≡ split_of s (get_or heats i (pos 0)) left →
+  pub kept_more : (split : Split ℤ) (sum : ℤ) → i < length heats → split ≡ split_of s (get_or heats i (pos 0)) left →
       sum ≡ booked +ℤ split.booked → Kept s heats start (i + 1) sum split.remainder
   kept_more split sum h e f =
       subst (λ (z : ℤ). Kept s heats start (i + 1) z split.remainder) (sym f)
-      (subst (λ (x : Split). Kept s heats start (i + 1) (booked +ℤ x.booked) x.remainder) (sym e) (one_more h))
+      (subst (λ (x : Split ℤ). Kept s heats start (i + 1) (booked +ℤ x.booked) x.remainder) (sym e) (one_more h))
 
-  pub kept_all : length heats ≤ i → ◌≡◌ {A = Run} (record { booked = booked; remainder = left }) (run_of s heats start)
+  pub kept_all : length heats ≤ i → ◌≡◌ {A = Split ℤ} (record { booked = booked; remainder = left }) (run_of s heats start)
   kept_all h =
       let volume : (run_of s (drop i heats) left).booked ≡ pos 0 = at_drop_all (λ hs. (run_of s hs left).booked) heats i h in
       let rest : (run_of s (drop i heats) left).remainder ≡ left = at_drop_all (λ hs. (run_of s hs left).remainder) heats i h in

@@ -21,7 +21,7 @@ module _ (s : ℕ) (heat alone booked : ℤ) (m r : ℕ) (some : 0 < s) (quotien
       ap (λ q. q *ℤ pos s) sum ∙ over_sum alone (pos ((m + r) / s)) s in
       omega (arith, ints, first, both, div-add-mod' (m + r) s)
 
-  pub split_is : ◌≡◌ {A = Split} (record { booked = booked; remainder = (m + r) % s }) (split_of s heat r)
+  pub split_is : ◌≡◌ {A = Split ℤ} (record { booked = booked; remainder = (m + r) % s }) (split_of s heat r)
   split_is =
       let f = floors (heat +ℤ pos r) s booked ((m + r) % s) (mod_below (m + r) s some) joined in
       λ i. record { booked = sym f.quotient i; remainder = nat_abs (sym f.rest i) }

@@ -1,6 +1,6 @@
 -- A posting entered in one account of the row.
 use Rattle.refusals.specs.Grounds.{refusal_at}
-use Rattle.std.specs.Prelude.{ℕ, ◌-◌, cond, List, length, ℤ, pos, Some, None, Ok, Err, Option, Result, nat_lt, slice_index_or, slice_set}
+use Rattle.std.specs.Prelude.{ℕ, ◌-◌, cond, List, length, ℤ, Some, None, Ok, Err, Option, Result, ok_or, nat_lt, slice_index_or, slice_set}
 use Rattle.std.specs.Option.{option_map}
 use Rattle.refusals.specs.declared.Ground.{Ground}
 use Rattle.refusals.specs.declared.Ground.TheVariants.{UnknownShipper, OutsidePeriod, TicketRepeated, AccountLimit}
@@ -11,7 +11,8 @@ use Rattle.calendar.specs.Gregorian.{first_day, in_month}
 use Rattle.sides.specs.declared.Side.{Side}
 use Rattle.sides.specs.Days.{taken}
 use Rattle.accounts.specs.declared.settled.Correction.{Correction}
-use Rattle.accounts.specs.Accounts.{AccountTold, opened, day_booked, after_day, after_plan, corrected, after_correction}
+use Rattle.accounts.specs.Told.{AccountTold}
+use Rattle.accounts.specs.Accounts.{blank, day_booked, after_day, after_plan, corrected, after_correction}
 
 abbrev pub month_number : Option Month → Option ℕ
 month_number current = option_map (λ month. month.0) current
@@ -21,13 +22,16 @@ abbrev pub place_in : Option ℕ → ℕ → Option ℕ
 place_in None day = None
 place_in (Some month) day = cond (in_month month day) (Some (day - first_day month)) None
 
+abbrev pub place_or : Option ℕ → ℕ → Result ℕ Refusal
+place_or current day = ok_or (place_in current day) (refusal_at OutsidePeriod Book day)
+
 abbrev pub refused_by : {R : Type 0} → (ground : Ground) → ℕ → Result R Refusal
 refused_by ground place = Err (refusal_at ground Book place)
 
 -- ---- one account of the row
 
 abbrev pub account_of : List AccountTold → ℕ → AccountTold
-account_of accounts shipper = slice_index_or accounts shipper (opened (pos 0) (pos 0))
+account_of accounts shipper = slice_index_or accounts shipper blank
 
 -- what the shipper's account answers; a shipper that isn't in the row is refused
 abbrev pub answer_of : {R : Type 0} → ℕ → List AccountTold → (AccountTold → Result R Refusal) → Result R Refusal

@@ -1,34 +1,15 @@
 -- What a board holds by value, and what fixing a price does.
-use Rattle.std.specs.Prelude.{ℕ, Bool, cond, ◌&&◌, List, ◌++◌, Some, None, Ok, Err, codes, decimal, Option, Result, ◌==◌, nat_le, nat_lt}
+use Rattle.std.specs.Prelude.{ℕ, cond, ◌&&◌, Some, None, Ok, Err, Option, Result, ◌==◌, nat_lt}
 use Rattle.refusals.specs.declared.Ground.{Ground}
 use Rattle.refusals.specs.declared.Ground.TheVariants.{UnknownShipper, OutsidePeriod, PriceHeld, EvidenceFails}
 use Rattle.refusals.specs.declared.Layer.TheVariants.{Board}
 use Rattle.refusals.specs.declared.Refusal.{Refusal}
-use Rattle.prices.specs.declared.price.Prices.{Prices}
-
--- three prices in sen per m³
-pub record PricesTold : Type 0 where
-  pub low : ℕ
-  pub plain : ℕ
-  pub high : ℕ
-
-abbrev pub prices_told : Prices → PricesTold
-prices_told prices = record { low = prices.low; plain = prices.plain; high = prices.high }
-
--- a price is from 1 to 100,000
-abbrev pub in_range : ℕ → Bool
-in_range price = nat_le 1 price && nat_le price 100000
-
-abbrev pub prices_of : ℕ → ℕ → ℕ → Option PricesTold
-prices_of low plain high =
-    cond (in_range low && in_range plain && in_range high) (Some (record { low = low; plain = plain; high = high })) None
-
--- low, plain and high, with one space between
-abbrev pub prices_text : Prices → List ℕ
-prices_text prices = decimal prices.low ++ (codes " " ++ (decimal prices.plain ++ (codes " " ++ decimal prices.high)))
+use Rattle.refusals.specs.Grounds.{refusal_at}
+use Rattle.prices.specs.Price.{PricesTold}
+use Rattle.prices.specs.declared.slot.Slot.{Slot}
 
 abbrev pub on_board : (ground : Ground) → ℕ → Option Refusal
-on_board ground place = Some (record { ground = ground; layer = Board; place = place })
+on_board ground place = Some (refusal_at ground Board place)
 
 -- prices that are held come before evidence that does not stand
 abbrev pub pair_bar : ℕ → Option PricesTold → Option PricesTold → Option Refusal
@@ -37,10 +18,10 @@ pair_bar place None None = on_board EvidenceFails place
 pair_bar place None (Some prices) = None
 
 -- the refusal that is due when prices are to be fixed, of what the pair holds and what the evidence gives
-abbrev pub fix_bar : ℕ → ℕ → Option PricesTold → Option PricesTold → Option Refusal
-fix_bar shipper place held judged =
-    cond (nat_lt 15 shipper) (on_board UnknownShipper shipper)
-    (cond (nat_lt 11 place) (on_board OutsidePeriod place) (pair_bar place held judged))
+abbrev pub fix_bar : Slot → Option PricesTold → Option PricesTold → Option Refusal
+fix_bar slot held judged =
+    cond (nat_lt 15 slot.shipper) (on_board UnknownShipper slot.shipper)
+    (cond (nat_lt 11 slot.place) (on_board OutsidePeriod slot.place) (pair_bar slot.place held judged))
 
 abbrev pub ruling : Option Refusal → Result (Unit {0}) Refusal
 ruling None = Ok tt
@@ -52,6 +33,8 @@ unless_barred None judged before = judged
 unless_barred (Some refusal) judged before = before
 
 -- one pair holds what the evidence gives, and every other what it held before
-abbrev pub held_after : ℕ → ℕ → (ℕ → ℕ → Option PricesTold) → Option PricesTold → ℕ → ℕ → Option PricesTold
-held_after shipper place held judged s p =
-    cond (s == shipper && p == place) (unless_barred (fix_bar shipper place (held shipper place) judged) judged (held s p)) (held s p)
+abbrev pub held_after : Slot → (ℕ → ℕ → Option PricesTold) → Option PricesTold → ℕ → ℕ → Option PricesTold
+held_after slot held judged s p =
+    cond (s == slot.shipper && p == slot.place)
+    (unless_barred (fix_bar slot (held slot.shipper slot.place) judged) judged (held s p))
+    (held s p)

@@ -1,2 +1,1 @@
 mod Instigators
-mod Told

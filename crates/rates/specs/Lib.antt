@@ -1,3 +1,2 @@
 pub mod Rates
 pub mod Orders
-pub mod Fractions

@@ -1,11 +1,8 @@
 // Rates in their order, by cross products, and the instigator: the first holder of the greatest rate, if that is above
 // a twentieth.
-ghost use Rattle.std.specs.Prelude.{◌≡◌, Some, refl, map};
-ghost use Rattle.rates.specs.Rates.{rate_told, rate_of, cross, rate_order, same_rate, passing, passing_at, instigator_of, Instigator};
-ghost use Rattle.std.specs.Cmp.Rules.{comparing};
-ghost use Rattle.std.proofs.Common.{rules, arith};
+ghost use Rattle.std.specs.Prelude.{◌≡◌, Some, refl};
+ghost use Rattle.rates.specs.Rates.{rate_of, cross, rate_order, same_rate, passing, passing_at, instigator_of, Instigator};
 ghost use Rattle.std.specs.Cmp.{partial_equiv_from_equiv, partial_order_from_agreeing_total};
-ghost use Rattle.rates.specs.Fractions.{instigator_told, InstigatorTold};
 ghost use Rattle.rates.specs.Orders.{rates_total, rates_same, same_tied};
 
 use super::rate::Rate;
@@ -15,7 +12,7 @@ use std::cmp::Ordering;
 impl Rate {
     // The rate of a plan and what was delivered; 0 where nothing was planned.
     pub fn of(plan: u32, deliveries: u32) -> Rate
-        ensures value { rate_told result ≡ rate_of plan deliveries }
+        ensures value { result ≡ rate_of plan deliveries }
     {
         if plan == 0 {
             Rate { gap: 0, plan: 1 }
@@ -35,6 +32,14 @@ impl Rate {
     }
 }
 
+impl Default for Rate {
+    ghost is_default = { λ rate. rate ≡ rate_of 0 0 };
+
+    fn default() -> Rate {
+        Rate::of(0, 0)
+    }
+}
+
 // This rate's numerator over the common denominator of both.
 fn over(x: Rate, y: Rate) -> u64
     ensures value { result ≡ cross x y }
@@ -42,6 +47,7 @@ fn over(x: Rate, y: Rate) -> u64
     u64::from(x.gap) * u64::from(y.plan)
 }
 
+// Equality and order are written out, by cross products: what a derive gives, field by field, is not that of fractions.
 impl PartialEq for Rate {
     ghost eq = { λ x y. same_rate x y };
 
@@ -71,9 +77,9 @@ impl Ord for Rate {
 
     ghost total = { rates_total };
 
-    ghost matches_partial_cmp = { first_of (Prim.search (comparing, rules), Prim.grind (arith, Self.row.coded.inj)) };
+    ghost matches_partial_cmp = { λ _ _. refl };
 
-    ghost matches_eq = { first_of (Prim.search (comparing, rules), Prim.grind (arith, Self.row.coded.inj)) };
+    ghost matches_eq = { same_tied };
 
     fn cmp(&self, other: &Rate) -> Ordering {
         over(*self, *other).cmp(&over(*other, *self))
@@ -84,26 +90,13 @@ impl Ord for Rate {
 fn passes_at(rates: &[Rate], at: usize) -> bool
     ensures value { result ≡ passing_at at rates.now }
 {
-    if at < rates.len() {
-        rates[at].passes()
-    } else {
-        false
-    }
+    rates.get(at).is_some_and(|rate| rate.passes())
 }
 
 // The instigator among shippers with these rates, if there is one.
 pub fn instigator(rates: &[Rate]) -> Option<usize>
     ensures value { result ≡ instigator_of rates.now }
     ensures who { Instigator rates.now result }
-    ensures told { result ≡ instigator_told (map rate_told rates.now) }
-    ensures who_told { InstigatorTold (map rate_told rates.now) result }
 {
-    let Some(first) = first_greatest(rates) else {
-        return None;
-    };
-    if passes_at(rates, first) {
-        Some(first)
-    } else {
-        None
-    }
+    first_greatest(rates).filter(|at| passes_at(rates, *at))
 }

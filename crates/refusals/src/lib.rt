@@ -2,7 +2,7 @@
 #![tactic(auto)]
 
 ghost use Rattle.std.specs.Prelude.{◌≡◌, Some};
-ghost use Rattle.refusals.specs.Grounds.{ground_number, layer_name, refusal_text};
+ghost use Rattle.refusals.specs.Grounds.{ground_number, layer_name, refusal_at, refusal_text};
 
 use std::fmt;
 
@@ -61,23 +61,36 @@ pub struct Refusal {
     pub place: u64,
 }
 
-impl Ground {
-    pub fn number(self) -> u8
-        ensures value { result ≡ ground_number self }
-    {
-        self as u8
+impl From<Ground> for u8 {
+    ghost from_gives = { λ ground number. number ≡ ground_number ground };
+
+    fn from(ground: Ground) -> u8 {
+        ground as u8
     }
 }
 
-impl Layer {
-    pub fn name(self) -> &'static str
-        ensures value { result.now ≡ layer_name self }
-    {
-        match self {
+impl fmt::Display for Layer {
+    ghost output = { λ layer. Some (layer_name layer) };
+
+    fn fmt<W: fmt::Write>(&self, f: &mut fmt::Formatter<W>) -> fmt::Result {
+        f.write_str(match self {
             Layer::Words => "words",
             Layer::Board => "board",
             Layer::Sheet => "sheet",
             Layer::Book => "book",
+        })
+    }
+}
+
+impl Layer {
+    // The refusal by this layer of what its ground is due for, at a place there.
+    pub fn refuses(self, ground: Ground, place: u64) -> Refusal
+        ensures value { result ≡ refusal_at ground self place }
+    {
+        Refusal {
+            ground,
+            layer: self,
+            place,
         }
     }
 }
@@ -86,8 +99,8 @@ impl fmt::Display for Refusal {
     ghost output = { λ refusal. Some (refusal_text refusal) };
 
     fn fmt<W: fmt::Write>(&self, f: &mut fmt::Formatter<W>) -> fmt::Result {
-        let number = self.ground.number();
-        let layer = self.layer.name();
+        let number = u8::from(self.ground);
+        let layer = self.layer;
         let place = self.place;
         write!(f, "refused {number} {layer} {place}")
     }

@@ -1,2 +1,1 @@
-mod Scan
-pub mod Opened
+mod Opened

@@ -1,1 +1,3 @@
+pub mod Terms
 pub mod Rolls
+pub mod Lending

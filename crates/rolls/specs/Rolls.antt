@@ -1,37 +1,13 @@
 -- The opening, and what a row of accounts tells.
 use Rattle.refusals.specs.Grounds.{refusal_at}
-use Rattle.std.specs.Prelude.{ℕ, ◌+◌, Bool, cond, ◌&&◌, ◌||◌, List, [], ◌∷◌, map, length, take, Some, None, Ok, Err, Option, Result, ◌==◌, nat_le, nat_lt}
-use Rattle.std.specs.Result.{result_map_both}
+use Rattle.std.specs.Prelude.{ℕ, ◌+◌, Bool, cond, not, ◌&&◌, ◌||◌, List, map, length, position, Some, None, Ok, Err, Option, Result, ◌==◌, nat_le, nat_lt}
 use Rattle.refusals.specs.declared.Ground.TheVariants.{FigureLimits}
 use Rattle.refusals.specs.declared.Layer.TheVariants.{Book}
 use Rattle.refusals.specs.declared.Refusal.{Refusal}
-use Rattle.accounts.specs.Accounts.{AccountTold, account_told, carry_allowed, opened, all_in}
+use Rattle.accounts.specs.Told.{AccountTold}
+use Rattle.accounts.specs.Accounts.{carry_allowed, opened, all_in}
 use Rattle.rolls.specs.declared.opening.Carries.{Carries}
-use Rattle.rolls.specs.declared.roll.Roll.{Roll}
-use Rattle.rolls.specs.declared.terms.Terms.{Terms}
-
--- the accounts of the shippers
-abbrev pub roll_told : Roll → List AccountTold
-roll_told roll = map account_told (take roll.count roll.accounts)
-
-pub record TermsTold : Type 0 where
-  pub first : ℕ
-  pub standard : ℕ
-  pub tax : ℕ
-
-abbrev pub terms_told : Terms → TermsTold
-terms_told terms = record { first = terms.first; standard = terms.standard.units; tax = terms.tax }
-
-abbrev pub terms_outcome : Result Terms Refusal → Result TermsTold Refusal
-terms_outcome answer = result_map_both terms_told (λ refusal. refusal) answer
-
-abbrev pub roll_outcome : Result Roll Refusal → Result (List AccountTold) Refusal
-roll_outcome answer = result_map_both roll_told (λ refusal. refusal) answer
-
--- the first item that does not pass, from a number on
-abbrev pub first_failing : {X : Type 0} → (X → Bool) → ℕ → List X → Option ℕ
-first_failing passes n [] = None
-first_failing passes n (x ∷ xs) = cond (passes x) (first_failing passes (n + 1) xs) (Some n)
+use Rattle.rolls.specs.Terms.{TermsTold}
 
 -- ---- the opening
 
@@ -49,6 +25,9 @@ terms_of month heat tax =
 abbrev pub carries_allowed : Carries → Bool
 carries_allowed carries = carry_allowed carries.older && carry_allowed carries.newer
 
+abbrev pub carries_outside : Carries → Bool
+carries_outside carries = not (carries_allowed carries)
+
 abbrev pub opened_account : Carries → AccountTold
 opened_account carries = opened carries.older carries.newer
 
@@ -60,10 +39,10 @@ opened_unless (Some shipper) carries = outside (4 + shipper)
 abbrev pub opened_roll : List Carries → Result (List AccountTold) Refusal
 opened_roll carries =
     cond (length carries == 0 || nat_lt 16 (length carries)) (outside 3)
-    (opened_unless (first_failing carries_allowed 0 carries) carries)
+    (opened_unless (position carries_outside carries) carries)
 
 -- ---- a month's tickets
 
 -- the lowest shipper that lacks a day's ticket
 abbrev pub lacking : ℕ → List AccountTold → Option ℕ
-lacking days accounts = first_failing (all_in days) 0 accounts
+lacking days accounts = position (λ account. not (all_in days account)) accounts

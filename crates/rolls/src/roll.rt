@@ -1,13 +1,21 @@
 // The accounts of a book's shippers, 1 to 16, by their numbers.
-ghost use Rattle.std.specs.Prelude.{◌≡◌, ◌≤◌, length};
-
 use accounts::account::Account;
+use arrayvec::ArrayVec;
+use prices::slot::SHIPPERS;
+use std::marker::Model;
 
-#[derive(Clone, Copy)]
+#[derive(Clone, Drop)]
 pub struct Roll {
-    // how many shippers there are; the accounts after them say nothing
-    pub count: usize,
-    pub accounts: [Account; 16],
-    ghost few: { (1 ≤ count) × (count ≤ 16) },
-    ghost whole: { length accounts ≡ 16 },
+    pub accounts: ArrayVec<Account, SHIPPERS>,
+}
+
+impl Model for Roll {
+    ghost use Rattle.std.specs.Prelude.{◌≤◌, List, length};
+    ghost use Rattle.accounts.specs.Told.{AccountTold};
+
+    ghost Value = { List AccountTold };
+
+    ghost view = { λ roll. roll.accounts.items };
+
+    ghost invariant = { λ roll. (1 ≤ length roll.accounts.items) × (length roll.accounts.items ≤ 16) };
 }

@@ -1,7 +1,6 @@
 // What the opening fixes for the year.
-ghost use Rattle.std.specs.Prelude.{◌≤◌};
-
 use heat::standard::StandardHeat;
+use std::marker::Model;
 
 // The last month that a year can begin with, and the greatest tax in percent.
 pub const LAST_FIRST_MONTH: u32 = 1188;
@@ -15,5 +14,17 @@ pub struct Terms {
     pub standard: StandardHeat,
     // percent
     pub tax: u8,
-    ghost limits: { (first ≤ 1188) × (tax ≤ 100) },
+}
+
+impl Model for Terms {
+    ghost use Rattle.std.specs.Prelude.{◌≤◌};
+    ghost use Rattle.rolls.specs.Terms.{TermsTold};
+
+    ghost Value = { TermsTold };
+
+    ghost view = { λ t. record { first = t.first; standard = t.standard; tax = t.tax } };
+
+    ghost invariant = { λ t. (t.first ≤ 1188) × (t.tax ≤ 100) };
+
+    ghost inverse = { λ t. record { first = t.first; standard = t.standard; tax = t.tax } };
 }

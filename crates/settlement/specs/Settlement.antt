@@ -1,6 +1,6 @@
 -- What a settled volume comes to: the kind of price that it takes, its yen, and the tax on them.
-use Rattle.std.specs.Prelude.{ℕ, zero, suc, ◌*◌, ◌/◌, Bool, true, false, ℤ, pos, negsuc, nat_abs}
-use Rattle.prices.specs.Board.{PricesTold}
+use Rattle.std.specs.Prelude.{ℕ, zero, suc, ◌*◌, ◌/◌, Bool, true, false, ℤ, pos, negsuc, unsigned_abs}
+use Rattle.prices.specs.Price.{PricesTold}
 use Rattle.shares.specs.Month.{with_sign}
 use Rattle.settlement.specs.declared.PriceKind.{PriceKind}
 use Rattle.settlement.specs.declared.PriceKind.TheVariants.{Plain, Low, High}
@@ -25,7 +25,7 @@ price_of High prices = prices.high
 
 -- |figure| × factor ÷ 100, with the figure's sign
 abbrev pub hundredths : ℤ → ℕ → ℤ
-hundredths figure factor = with_sign figure (nat_abs figure * factor / 100)
+hundredths figure factor = with_sign figure (unsigned_abs figure * factor / 100)
 
 -- of a settled volume in m³, at a price in sen per m³
 abbrev pub yen_of : ℤ → ℕ → ℤ

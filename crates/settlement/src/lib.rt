@@ -2,8 +2,7 @@
 // the tax on them.
 #![tactic(auto)]
 
-ghost use Rattle.std.specs.Prelude.{◌*◌, ◌/◌, ◌≤◌, ◌≡◌, nat_abs};
-ghost use Rattle.prices.specs.Board.{prices_told};
+ghost use Rattle.std.specs.Prelude.{◌≡◌, ◌*◌, ◌/◌, ◌≤◌, unsigned_abs};
 ghost use Rattle.settlement.specs.Settlement.{kind_number, kind_of, price_of, hundredths, yen_of, tax_of};
 
 use prices::price::Prices;
@@ -16,13 +15,15 @@ pub enum PriceKind {
     High = 2,
 }
 
-impl PriceKind {
-    pub fn number(self) -> u8
-        ensures value { result ≡ kind_number self }
-    {
-        self as u8
-    }
+impl From<PriceKind> for u8 {
+    ghost from_gives = { λ kind number. number ≡ kind_number kind };
 
+    fn from(kind: PriceKind) -> u8 {
+        kind as u8
+    }
+}
+
+impl PriceKind {
     // The kind that a shipper takes, by whether it is the instigator and what it settles.
     pub fn of(instigator: bool, settled: i64) -> PriceKind
         ensures value { result ≡ kind_of instigator settled }
@@ -38,7 +39,7 @@ impl PriceKind {
 
     // The price of this kind, in sen per m³.
     pub fn price(self, prices: Prices) -> u32
-        ensures value { result ≡ price_of self (prices_told prices) }
+        ensures value { result ≡ price_of self prices }
         ensures range { (1 ≤ result) × (result ≤ 100000) }
     {
         match self {
@@ -49,10 +50,11 @@ impl PriceKind {
     }
 }
 
-// So many hundredths of a figure, cut toward zero.
+// So many hundredths of a figure, cut toward zero. The sign is set as for a carry, at 128 bits: one function for both
+// widths would need a trait with their laws.
 fn hundredths(figure: i64, factor: u32) -> i128
     ensures value { result ≡ hundredths figure factor }
-    ensures size { nat_abs result ≡ nat_abs figure * factor / 100 }
+    ensures size { unsigned_abs result ≡ unsigned_abs figure * factor / 100 }
 {
     let size = u128::from(figure.unsigned_abs()) * u128::from(factor) / 100;
     if figure < 0 {
@@ -65,7 +67,7 @@ fn hundredths(figure: i64, factor: u32) -> i128
 // The yen of a settled volume in m³, at a price in sen per m³; of 128 bits, which no volume and no price passes.
 pub fn yen(settled: i64, price: u32) -> i128
     ensures value { result ≡ yen_of settled price }
-    ensures size { nat_abs result ≡ nat_abs settled * price / 100 }
+    ensures size { unsigned_abs result ≡ unsigned_abs settled * price / 100 }
 {
     hundredths(settled, price)
 }
@@ -73,7 +75,7 @@ pub fn yen(settled: i64, price: u32) -> i128
 // The tax on yen.
 pub fn tax(yen: i64, percent: u8) -> i128
     ensures value { result ≡ tax_of yen percent }
-    ensures size { nat_abs result ≡ nat_abs yen * percent / 100 }
+    ensures size { unsigned_abs result ≡ unsigned_abs yen * percent / 100 }
 {
     hundredths(yen, u32::from(percent))
 }

@@ -1,8 +1,8 @@
 -- A month's imbalances, and how each is divided into gas carried and gas settled.
 use Rattle.std.specs.Prelude.{◌≡◌, ℕ, ◌*◌, ◌/◌, ◌≤◌, Bool, false, cond, List, ℤ, pos, negsuc, ◌+ℤ◌, ◌-ℤ◌, neg_ℤ, sum_by, count_by, ◌==◌, nat_lt, unsigned_abs}
-use Rattle.std.specs.List.{AllByRecursion}
+use Rattle.std.specs.List.{All}
 use Rattle.shares.specs.declared.figures.Figures.{Figures}
-use Rattle.shares.specs.declared.pool.Pool.{Pool}
+use Rattle.shares.specs.Pool.{PoolTold}
 use Rattle.shares.specs.declared.pools.Share.{Share}
 
 -- R − D + the carry-over of two months before
@@ -12,15 +12,6 @@ imbalance f = pos f.receipts -ℤ pos f.deliveries +ℤ f.brought
 -- 20 × |imbalance| > R
 abbrev pub stirred : Figures → Bool
 stirred f = nat_lt f.receipts (20 * unsigned_abs (imbalance f))
-
--- how many are stirred; V2, the sum of their carries; V3, the sum of their imbalances without sign
-pub record PoolTold : Type 0 where
-  pub count : ℕ
-  pub carried : ℕ
-  pub moved : ℕ
-
-abbrev pub pool_told : Pool → PoolTold
-pool_told pool = record { count = pool.count; carried = pool.carried; moved = pool.moved }
 
 abbrev pub of_stirred : (Figures → ℕ) → Figures → ℕ
 of_stirred figure f = cond (stirred f) (figure f) 0
@@ -62,13 +53,13 @@ pub record Fair (pool : PoolTold) (f : Figures) : Type 0 where
   pub within : stirred f ≡ false → unsigned_abs (share_of pool f).carry ≤ unsigned_abs (imbalance f)
 
 abbrev pub NoneStirred : List Figures → Type 0
-NoneStirred fs = AllByRecursion (λ f. stirred f ≡ false) fs
+NoneStirred fs = All (λ f. stirred f ≡ false) fs
 
 abbrev pub AllCarryAll : PoolTold → List Figures → Type 0
-AllCarryAll pool fs = AllByRecursion (λ f. (share_of pool f).carry ≡ imbalance f) fs
+AllCarryAll pool fs = All (λ f. (share_of pool f).carry ≡ imbalance f) fs
 
 abbrev pub AllFair : List Figures → Type 0
-AllFair fs = AllByRecursion (Fair (pool_of fs)) fs
+AllFair fs = All (Fair (pool_of fs)) fs
 
 -- all carry their whole imbalance exactly when none is stirred
 abbrev pub CalmExactly : List Figures → Type 0

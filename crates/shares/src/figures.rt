@@ -1,9 +1,9 @@
 // One shipper's figures of a month.
-ghost use Rattle.std.specs.Prelude.{◌≡◌};
+ghost use Rattle.std.specs.Prelude.{◌≡◌, ◌^◌, ◌≤◌, unsigned_abs};
 ghost use Rattle.shares.specs.Month.{imbalance, stirred};
 
 // In standard m³.
-#[derive(Clone, Copy)]
+#[derive(Clone, Copy, Default)]
 pub struct Figures {
     // R
     pub receipts: u32,
@@ -18,6 +18,7 @@ pub struct Figures {
 impl Figures {
     pub fn imbalance(self) -> i64
         ensures value { result ≡ imbalance self }
+        ensures few { unsigned_abs result ≤ 2 ^ 33 }
     {
         i64::from(self.receipts) - i64::from(self.deliveries) + i64::from(self.brought)
     }

@@ -1,5 +1,5 @@
 // What the stirred shippers of a month come to.
-ghost use Rattle.std.specs.Prelude.{◌^◌, ◌≤◌};
+use std::marker::Model;
 
 #[derive(Clone, Copy)]
 pub struct Pool {
@@ -9,7 +9,18 @@ pub struct Pool {
     pub carried: u128,
     // V3, the sum of their imbalances without sign in m³
     pub moved: u128,
+}
+
+impl Model for Pool {
+    ghost use Rattle.std.specs.Prelude.{◌^◌, ◌≤◌};
+    ghost use Rattle.shares.specs.Pool.{PoolTold};
+
+    ghost Value = { PoolTold };
+
+    ghost view = { λ p. record { count = p.count; carried = p.carried; moved = p.moved } };
+
     // each moves 1 m³ or more, and carries no more than it moves
-    ghost within: { (count ≤ moved) × (carried ≤ moved) },
-    ghost few: { (carried ≤ 2 ^ 92) × (moved ≤ 2 ^ 97) },
+    ghost invariant = { λ p. (p.count ≤ p.moved) × (p.carried ≤ p.moved) × (p.carried ≤ 2 ^ 92) × (p.moved ≤ 2 ^ 97) };
+
+    ghost inverse = { λ p. record { count = p.count; carried = p.carried; moved = p.moved } };
 }

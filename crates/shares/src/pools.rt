@@ -1,7 +1,6 @@
 // The pool of a month, and each shipper's share by it.
-ghost use Rattle.std.specs.Prelude.{◌≡◌, ◌*◌, ◌/◌, ◌^◌, ◌<◌, ◌≤◌, if◌then◌else◌, unsigned_abs};
-ghost use Rattle.shares.specs.Month.{imbalance, stirred, of_stirred, pool_told, pool_of, with_sign, carry_size, share_of, Fair, NoneStirred, AllCarryAll};
-ghost use Rattle.std.specs.List.{AllByRecursion};
+ghost use Rattle.std.specs.Prelude.{◌≡◌, ◌*◌, ◌/◌, ◌^◌, ◌<◌, ◌≤◌};
+ghost use Rattle.shares.specs.Month.{pool_of, with_sign, carry_size, share_of, AllFair, CalmExactly};
 
 use super::figures::Figures;
 use super::pool::Pool;
@@ -14,50 +13,23 @@ pub struct Share {
     pub settled: i64,
 }
 
-// What one shipper adds to the pool: nothing where it is not stirred.
-#[derive(Clone, Copy)]
-struct Stir {
-    count: u64,
-    carried: u64,
-    moved: u64,
-}
-
-fn stirring(f: Figures) -> Stir
-    ensures count { result.count ≡ (if stirred f then 1 else 0) }
-    ensures carried { result.carried ≡ of_stirred (λ g. g.receipts / 20) f }
-    ensures moved { result.moved ≡ of_stirred (λ g. unsigned_abs (imbalance g)) f }
-    ensures within { (result.count ≤ 1) × (result.count ≤ result.moved) × (result.carried ≤ result.moved) }
-    ensures few { (result.carried ≤ 2 ^ 28) × (result.moved ≤ 2 ^ 33) }
-{
-    if f.is_stirred() {
-        Stir {
-            count: 1,
-            carried: u64::from(f.receipts / 20),
-            moved: f.imbalance().unsigned_abs(),
-        }
-    } else {
-        Stir {
-            count: 0,
-            carried: 0,
-            moved: 0,
-        }
-    }
-}
-
 // The stirred shippers of a month.
 pub fn pool_of(figures: &[Figures]) -> Pool
-    ensures value { pool_told result ≡ pool_of figures.now }
-    ensures fair { AllByRecursion (Fair (pool_of figures.now)) figures.now }
-    ensures calm { (NoneStirred figures.now → AllCarryAll (pool_of figures.now) figures.now) × (AllCarryAll (pool_of figures.now) figures.now → NoneStirred figures.now) }
+    ensures value { result ≡ pool_of figures.now }
+    ensures fair { AllFair figures.now }
+    ensures calm { CalmExactly figures.now }
 {
     let mut count: u64 = 0;
     let mut carried: u128 = 0;
     let mut moved: u128 = 0;
+    // one loop for the three figures: as sums they would be three
     for f in figures {
-        let more = stirring(*f);
-        count += more.count;
-        carried += u128::from(more.carried);
-        moved += u128::from(more.moved);
+        let f = *f;
+        if f.is_stirred() {
+            count += 1;
+            carried += u128::from(f.receipts / 20);
+            moved += u128::from(f.imbalance().unsigned_abs());
+        }
     }
     Pool {
         count,
@@ -66,7 +38,7 @@ pub fn pool_of(figures: &[Figures]) -> Pool
     }
 }
 
-// A size with the sign of another figure.
+// A size with the sign of another figure; `signum` would lose the size at a figure of 0.
 fn signed_like(figure: i64, size: u64) -> i64
     requires { size ≤ 2 ^ 62 }
     ensures value { result ≡ with_sign figure size }
@@ -91,7 +63,7 @@ impl Pool {
 
     // What a shipper carries, without sign.
     fn carry_size(self, f: Figures) -> u64
-        ensures value { result ≡ carry_size (pool_told self) f }
+        ensures value { result ≡ carry_size self f }
         ensures bound { result ≤ 2 ^ 33 }
     {
         let size = f.imbalance().unsigned_abs();
@@ -106,7 +78,7 @@ impl Pool {
 
     // How a shipper's imbalance is divided in this month.
     pub fn share(self, f: Figures) -> Share
-        ensures value { result ≡ share_of (pool_told self) f }
+        ensures value { result ≡ share_of self f }
     {
         let imbalance = f.imbalance();
         let carry = signed_like(imbalance, self.carry_size(f));

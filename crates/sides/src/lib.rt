@@ -14,7 +14,7 @@ pub enum Side {
     Deliveries,
 }
 
-#[derive(Clone, Copy, PartialEq, Eq, Debug)]
+#[derive(Clone, Copy, Default, PartialEq, Eq, Debug)]
 pub struct Pair<T> {
     pub receipts: T,
     pub deliveries: T,

@@ -1,4 +1,2 @@
-pub mod Images
-pub mod Rows
-mod Sheets
 mod Laws
+pub mod Lines

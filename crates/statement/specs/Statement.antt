@@ -1,16 +1,17 @@
 -- The statement of a month: a line for each shipper, in the order of their numbers.
 use Rattle.refusals.specs.Grounds.{refusal_at}
-use Rattle.std.specs.Prelude.{◌≡◌, ℕ, ◌+◌, ◌*◌, ◌≤◌, Bool, false, cond, List, [], ◌∷◌, ◌++◌, map, length, take, drop, pos, ◌+ℤ◌, Some, None, Option, ◌==◌, nat_lt, unsigned_abs}
-use Rattle.std.specs.List.{AllByRecursion}
+use Rattle.std.specs.Prelude.{◌≡◌, ℕ, ◌+◌, ◌*◌, ◌≤◌, Bool, false, cond, List, [], ◌∷◌, ◌++◌, map, length, drop, pos, ◌+ℤ◌, Some, None, Option, nat_eq, nat_lt, unsigned_abs}
+use Rattle.std.specs.Option.{option_eq}
+use Rattle.std.specs.List.{All}
 use Rattle.refusals.specs.declared.Ground.TheVariants.{SheetShort}
 use Rattle.refusals.specs.declared.Layer.TheVariants.{Sheet}
 use Rattle.refusals.specs.declared.Refusal.{Refusal}
-use Rattle.prices.specs.Board.{PricesTold, prices_told}
 use Rattle.shares.specs.declared.figures.Figures.{Figures}
 use Rattle.shares.specs.declared.pools.Share.{Share}
-use Rattle.shares.specs.Month.{PoolTold, pool_of, share_of}
-use Rattle.rates.specs.Rates.{RateTold, rate_of}
-use Rattle.rates.specs.Fractions.{instigator_told}
+use Rattle.shares.specs.Pool.{PoolTold}
+use Rattle.shares.specs.Month.{pool_of, share_of}
+use Rattle.rates.specs.declared.rate.Rate.{Rate}
+use Rattle.rates.specs.Rates.{rate_of, instigator_of}
 use Rattle.settlement.specs.declared.PriceKind.{PriceKind}
 use Rattle.settlement.specs.declared.PriceKind.TheVariants.{Plain}
 use Rattle.settlement.specs.Settlement.{kind_number, kind_of, price_of, yen_of, tax_of}
@@ -18,40 +19,33 @@ use Rattle.text.specs.declared.Figure.{Figure}
 use Rattle.text.specs.declared.Figure.TheVariants.{Natural, Integer}
 use Rattle.statement.specs.declared.line.Line.{Line}
 use Rattle.statement.specs.declared.month.Entry.{Entry}
-use Rattle.statement.specs.declared.month.Month.{Month}
 
--- one shipper's figures of a month, and its three prices
-pub record EntryTold : Type 0 where
-  pub figures : Figures
-  pub prices : PricesTold
-
-abbrev pub entry_told : Entry → EntryTold
-entry_told e = record { figures = e.figures; prices = prices_told e.prices }
-
--- the shippers of a month
-abbrev pub entries_of : Month → List EntryTold
-entries_of month = map entry_told (take month.count month.entries)
+-- what fills the places that no shipper has
+abbrev pub no_shipper : Entry
+no_shipper = record {
+  figures = record { receipts = 0; deliveries = 0; plan = 0; brought = pos 0 };
+  prices = record { low = 1; plain = 1; high = 1 };
+}
 
 -- one shipper more, while there are fewer than sixteen
-abbrev pub with_entry : List EntryTold → EntryTold → List EntryTold
+abbrev pub with_entry : List Entry → Entry → List Entry
 with_entry entries entry = cond (nat_lt (length entries) 16) (entries ++ entry ∷ []) entries
 
-abbrev pub figures_of : List EntryTold → List Figures
+abbrev pub figures_of : List Entry → List Figures
 figures_of entries = map (λ e. e.figures) entries
 
-abbrev pub rate_of_figures : Figures → RateTold
+abbrev pub rate_of_figures : Figures → Rate
 rate_of_figures f = rate_of f.plan f.deliveries
 
-abbrev pub rates_of : List EntryTold → List RateTold
+abbrev pub rates_of : List Entry → List Rate
 rates_of entries = map (λ e. rate_of_figures e.figures) entries
 
 -- whether a shipper is the one found
 abbrev pub is_found : Option ℕ → ℕ → Bool
-is_found None shipper = false
-is_found (Some at) shipper = at == shipper
+is_found instigator shipper = option_eq nat_eq instigator (Some shipper)
 
 -- a line's ten fields, of a share of the imbalance and a kind of price
-abbrev pub fields_of : ℕ → ℕ → EntryTold → Share → PriceKind → Line
+abbrev pub fields_of : ℕ → ℕ → Entry → Share → PriceKind → Line
 fields_of percent shipper entry share kind = record {
   shipper = shipper;
   receipts = entry.figures.receipts;
@@ -66,19 +60,19 @@ fields_of percent shipper entry share kind = record {
 }
 
 -- by the month's pool and instigator
-abbrev pub line_of : PoolTold → Option ℕ → ℕ → ℕ → EntryTold → Line
+abbrev pub line_of : PoolTold → Option ℕ → ℕ → ℕ → Entry → Line
 line_of pool instigator percent shipper entry =
     fields_of percent shipper entry (share_of pool entry.figures)
     (kind_of (is_found instigator shipper) (share_of pool entry.figures).settled)
 
-abbrev pub lines_from : PoolTold → Option ℕ → ℕ → ℕ → List EntryTold → List Line
+abbrev pub lines_from : PoolTold → Option ℕ → ℕ → ℕ → List Entry → List Line
 lines_from pool instigator percent shipper [] = []
 lines_from pool instigator percent shipper (entry ∷ entries) =
     line_of pool instigator percent shipper entry ∷ lines_from pool instigator percent (shipper + 1) entries
 
 -- the whole statement, at a tax percentage
-abbrev pub statement_of : ℕ → List EntryTold → List Line
-statement_of percent entries = lines_from (pool_of (figures_of entries)) (instigator_told (rates_of entries)) percent 0 entries
+abbrev pub statement_of : ℕ → List Entry → List Line
+statement_of percent entries = lines_from (pool_of (figures_of entries)) (instigator_of (rates_of entries)) percent 0 entries
 
 -- what a sheet holds before anything is drawn on it
 abbrev pub no_line : Line
@@ -132,13 +126,13 @@ pub record FairLine (line : Line) : Type 0 where
   pub within : stirred_line line ≡ false → unsigned_abs line.carry ≤ unsigned_abs line.imbalance
 
 abbrev pub FairLines : List Line → Type 0
-FairLines lines = AllByRecursion FairLine lines
+FairLines lines = All FairLine lines
 
 abbrev pub NoLineStirred : List Line → Type 0
-NoLineStirred lines = AllByRecursion (λ line. stirred_line line ≡ false) lines
+NoLineStirred lines = All (λ line. stirred_line line ≡ false) lines
 
 abbrev pub EachCarriesAll : List Line → Type 0
-EachCarriesAll lines = AllByRecursion (λ line. line.carry ≡ line.imbalance) lines
+EachCarriesAll lines = All (λ line. line.carry ≡ line.imbalance) lines
 
 -- all carry their whole imbalance exactly when none is stirred
 abbrev pub CalmLines : List Line → Type 0

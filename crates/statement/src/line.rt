@@ -18,7 +18,8 @@ pub struct Line {
     pub tax: i64,
 }
 
-// No line: what a sheet holds before anything is drawn on it.
+// No line: what a sheet holds before anything is drawn on it. A constant and no `Default`, since no kind of price is a
+// default.
 pub const NO_LINE: Line = Line {
     shipper: 0,
     receipts: 0,

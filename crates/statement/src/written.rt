@@ -19,7 +19,7 @@ impl Line {
             Figure::Integer(self.imbalance),
             Figure::Integer(i64::from(self.carry)),
             Figure::Integer(self.settled),
-            Figure::Natural(u64::from(self.kind.number())),
+            Figure::Natural(u64::from(u8::from(self.kind))),
             Figure::Natural(u64::from(self.price)),
             Figure::Integer(self.yen),
             Figure::Integer(self.tax),

@@ -1,5 +1,5 @@
 -- A row's text, figure by figure: what is left of it from one place of the row on.
-use Rattle.std.proofs.Common.{◌≡◌, ℕ, ◌+◌, ◌<◌, ◌≤◌, List, [], ◌∷◌, ◌++◌, length, get_or, drop, ap, ◌∙◌, length-append}
+use Rattle.std.proofs.Common.{◌≡◌, ℕ, ◌+◌, ◌<◌, ◌≤◌, List, [], ◌∷◌, ◌++◌, length, get_or, drop, length-append}
 use Rattle.std.proofs.lemmas.List.{at_drop_more, at_drop_all}
 use Rattle.text.specs.Rows.{figure_text, ending, ended, row_text}
 use Rattle.text.specs.declared.Figure.{Figure}
@@ -18,10 +18,3 @@ module _ (figures : List Figure) (i : ℕ) where
   pub row_more : i < length figures →
       row_text (drop i figures) ≡ ended (get_or figures i (Natural 0)) (ending (drop (i + 1) figures)) ++ row_text (drop (i + 1) figures)
   row_more h = at_drop_more row_text figures i (Natural 0) h
-
-  pub row_all : length figures ≤ i → row_text (drop i figures) ≡ []
-  row_all h = at_drop_all row_text figures i h
-
-  pub length_row_more : i < length figures →
-      length (row_text (drop i figures)) ≡ length (figure_text (get_or figures i (Natural 0))) + 1 + length (row_text (drop (i + 1) figures))
-  length_row_more h = ap length (row_more h) ∙ simp length-append

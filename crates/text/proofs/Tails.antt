@@ -1,8 +1,8 @@
 -- Lists that are written piece by piece: a text at the front and the byte after it, a text in the tail from a place on,
 -- and one text after another.
-use Rattle.std.proofs.Common.{◌≡◌, ℕ, ◌+◌, ◌-◌, ◌<◌, ◌≤◌, List, [], ◌∷◌, ◌++◌, length, take, drop, set, sym, ap, ◌∙◌, append_assoc, add-zero, add_assoc, one-add, arith, length-append, length-drop}
+use Rattle.std.proofs.Common.{◌≡◌, ℕ, ◌+◌, ◌-◌, ◌<◌, ◌≤◌, List, [], ◌∷◌, ◌++◌, length, take, drop, set, sym, ap, ◌∙◌, append_assoc, add_assoc, arith, length-append, length-drop}
 use borrow.Rule.Slice.PartMut.{put_mid}
-use Rattle.std.proofs.lemmas.List.{append-nil, set_at, drop_more, drop-drop, drop_all, drop_at, take_at, take_rest, take-append-drop, length-take-le}
+use Rattle.std.proofs.lemmas.List.{append-nil, set_at, drop_more, drop-drop, drop_all, drop_at, take_at, take_rest, length-take-le}
 use Rattle.text.specs.Rows.{placed}
 
 -- a text at the front of a list, of which the last byte is still to be written
@@ -27,10 +27,6 @@ module _ {text : List ℕ} {last place : ℕ} {out entry : List ℕ} (b : Begun 
       ∙ sym (append_assoc b.front (last ∷ []) (drop (n + 1) entry))
       ∙ ap (λ xs. xs ++ drop (n + 1) entry) (sym b.whole)
       ∙ ap (λ k. text ++ drop k entry) size
-
--- nothing placed changes nothing
-pub placed_none : (at : ℕ) (xs : List ℕ) → placed at [] xs ≡ xs
-placed_none at xs = rw (add-zero, take-append-drop)
 
 module _ (at : ℕ) (text : List ℕ) where
   -- a tail at whose front a text was written
@@ -64,19 +60,3 @@ module _ (at : ℕ) (text : List ℕ) where
       ap (λ zs. placed (at + length text) more (put_mid at (length xs - at) xs zs)) e
       ∙ ap (placed (at + length text) more) (tail_put xs)
       ∙ placed_more more xs h
-
--- a byte before a text that is placed at 1
-second : (byte : ℕ) (text xs : List ℕ) → 0 < length xs →
-    placed 1 text (set xs 0 byte) ≡ (byte ∷ text) ++ drop (length (byte ∷ text)) xs
-second byte text [] h = let none : ⊥ = omega arith in elim none [ ]
-second byte text (x ∷ xs) h = rw one-add
-
--- a byte, and in the tail after it the rest of a text
-pub second_put : (byte : ℕ) (text more xs ys : List ℕ) → 0 < length xs → text ≡ byte ∷ more →
-    ys ≡ more ++ drop (length more) (take (length (set xs 0 byte) - 1) (drop 1 (set xs 0 byte))) →
-    put_mid 1 (length (set xs 0 byte) - 1) (set xs 0 byte) ys ≡ text ++ drop (length text) xs
-second_put byte text more xs ys h whole e =
-    ap (put_mid 1 (length (set xs 0 byte) - 1) (set xs 0 byte)) e
-    ∙ tail_put 1 more (set xs 0 byte)
-    ∙ second byte more xs h
-    ∙ ap (λ bytes. bytes ++ drop (length bytes) xs) (sym whole)

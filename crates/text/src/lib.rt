@@ -3,13 +3,13 @@
 // The room is tested before the first byte is written, so a row that is refused changes nothing.
 #![tactic(auto)]
 
-ghost use Rattle.std.specs.Prelude.{◌≡◌, ◌+◌, ◌<◌, ◌≤◌, ◌++◌, length, drop, decimal, nat_le};
+ghost use Rattle.std.specs.Prelude.{◌≡◌, ◌+◌, ◌<◌, ◌≤◌, ◌++◌, length, drop, decimal};
 ghost use Rattle.std.specs.Fmt.{signed_decimal};
 ghost use Rattle.text.specs.Rows.{figure_text, ended, row_text, placed, row_answer, row_after};
 
 use refusals::{Ground, Layer, Refusal};
 
-// A figure of a row.
+// A figure of a row. No `From` for each width: four impls, for one caller.
 #[derive(Clone, Copy)]
 pub enum Figure {
     Natural(u64),
@@ -36,19 +36,14 @@ fn figure_length(figure: Figure) -> usize
     }
 }
 
-// Whether the row takes no more than `room` bytes.
-fn has_room(figures: &[Figure], room: usize) -> bool
-    ensures value { result ≡ nat_le (length (row_text figures.now)) room }
+// How many bytes the row takes.
+fn row_length(figures: &[Figure]) -> usize
+    ensures value { result ≡ length (row_text figures.now) }
 {
-    let mut left = room;
-    for figure in figures {
-        let needed = figure_length(*figure) + 1;
-        if left < needed {
-            return false;
-        }
-        left -= needed;
-    }
-    true
+    figures
+        .iter()
+        .map(|figure| figure_length(*figure) + 1)
+        .sum()
 }
 
 // Writes the digits of a number at the front of `out`, and answers how many.
@@ -111,13 +106,9 @@ pub fn write_row(figures: &[Figure], buffer: &mut [u8], at: usize) -> Result<usi
     ensures after { buffer.new ≡ row_after figures.now buffer.old at }
 {
     let size = buffer.len();
-    if at <= size && has_room(figures, size - at) {
+    if at <= size && row_length(figures) <= size - at {
         Ok(put_row(figures, buffer, at))
     } else {
-        Err(Refusal {
-            ground: Ground::SheetShort,
-            layer: Layer::Sheet,
-            place: size as u64,
-        })
+        Err(Layer::Sheet.refuses(Ground::SheetShort, size as u64))
     }
 }

@@ -1,5 +1,8 @@
 -- What a list of words says: a ticket, or the refusal that is due.
-use Rattle.std.specs.Prelude.{◌≡◌, ℕ, ◌+◌, ◌<◌, ◌≤◌, Bool, true, cond, List, [], ◌∷◌, length, take, drop, ℤ, Some, None, Ok, Err, Option, Result, ◌==◌, slice_index, unsigned_abs}
+use Rattle.std.specs.Prelude.{◌≡◌, ℕ, ◌<◌, ◌≤◌, Bool, true, cond, List, length, take, drop, ℤ, Some, None, Ok, Err, Option, Result, ◌==◌, slice_index, not, unsigned_abs}
+use Rattle.std.specs.Result.{result_map_both}
+use Rattle.std.specs.List.{position_from, enumerate_from}
+use Rattle.refusals.specs.Grounds.{refusal_at}
 use Rattle.refusals.specs.declared.Ground.{Ground}
 use Rattle.refusals.specs.declared.Ground.TheVariants.{TicketLength, WordKind, FigureLimits}
 use Rattle.refusals.specs.declared.Layer.TheVariants.{Words}
@@ -11,8 +14,6 @@ use Rattle.tickets.specs.Kinds.{ticket_kind, ticket_length, figure_at, body_kind
 use Rattle.tickets.specs.declared.kind.BodyKind.TheVariants.{Volume}
 use Rattle.tickets.specs.declared.kind.TicketKind.{TicketKind}
 use Rattle.tickets.specs.declared.kind.TicketKind.TheVariants as K
-use Rattle.tickets.specs.declared.reader.Check.{Check}
-use Rattle.tickets.specs.declared.reader.Check.TheVariants.{Shape, Limits}
 use Rattle.tickets.specs.declared.reader.Ticket.{Ticket}
 use Rattle.tickets.specs.declared.reader.Ticket.TheVariants as T
 
@@ -28,8 +29,7 @@ ticket_told (T.Planned shipper day volume) = PlannedTold shipper day.0 volume
 ticket_told (T.Corrected side shipper month heat volume) = CorrectedTold side shipper month.0 heat volume
 
 abbrev pub outcome : Result Ticket Refusal → Result Told Refusal
-outcome (Ok ticket) = Ok (ticket_told ticket)
-outcome (Err refusal) = Err refusal
+outcome answer = result_map_both ticket_told (λ refusal. refusal) answer
 
 -- ---- what the words of each kind say
 
@@ -55,19 +55,20 @@ told K.DeliveriesCorrection words = corrected_told S.Deliveries words
 
 -- ---- what is wrong with them
 
--- the first index, from i on, whose word does not pass
-abbrev pub first_not : (ℕ → ℕ → Bool) → ℕ → List ℕ → Option ℕ
-first_not passes i [] = None
-first_not passes i (word ∷ words) = cond (passes i word) (first_not passes (i + 1) words) (Some i)
+-- the first index whose word does not pass
+abbrev pub first_not : (ℕ → ℕ → Bool) → List ℕ → Option ℕ
+first_not passes words = position_from (λ place. not (passes place.0 place.1)) 0 (enumerate_from 0 words)
 
--- a header has its reserved bits zero, and a body word the kind of what it stands for and a figure within its limits
-abbrev pub passing : Check → TicketKind → ℕ → ℕ → Bool
-passing Shape kind i word =
-    cond (i == 0) (reserved_of word == 0) (kind_of word == body_number (body_kind (figure_at kind i)))
-passing Limits kind i word = cond (i == 0) true (within (figure_at kind i) word)
+-- a header has its reserved bits zero, and a body word the kind of what it stands for
+abbrev pub shaped : TicketKind → ℕ → ℕ → Bool
+shaped kind i word = cond (i == 0) (reserved_of word == 0) (kind_of word == body_number (body_kind (figure_at kind i)))
+
+-- a body word has a figure within its limits
+abbrev pub allowed : TicketKind → ℕ → ℕ → Bool
+allowed kind i word = cond (i == 0) true (within (figure_at kind i) word)
 
 abbrev pub refused_at : (ground : Ground) → ℕ → Result Told Refusal
-refused_at ground place = Err (record { ground = ground; layer = Words; place = place })
+refused_at ground place = Err (refusal_at ground Words place)
 
 -- wrong kinds and bits come before figures outside their limits
 abbrev pub judged : Option ℕ → Option ℕ → Told → Result Told Refusal
@@ -79,7 +80,7 @@ abbrev pub reads_as : Option TicketKind → List ℕ → Result Told Refusal
 reads_as None words = refused_at WordKind 0
 reads_as (Some kind) words =
     cond (length words == ticket_length kind)
-    (judged (first_not (passing Shape kind) 0 words) (first_not (passing Limits kind) 0 words) (told kind words))
+    (judged (first_not (shaped kind) words) (first_not (allowed kind) words) (told kind words))
     (refused_at TicketLength (length words))
 
 abbrev pub reads : List ℕ → Result Told Refusal

@@ -51,7 +51,8 @@ pub const MOST_PLAN: u32 = 24_000_000;
 pub const MOST_CORRECTION: u32 = 24_000_000;
 
 impl TicketKind {
-    // The kind that a header word names; none where its top bits are no header kind.
+    // The kind that a header word names; none where its top bits are no header kind. As a `TryFrom` it would need an
+    // error type of its own, where the reader has the refusal at hand.
     pub fn of(header: u32) -> Option<TicketKind>
         ensures value { result ≡ ticket_kind header }
     {
@@ -80,31 +81,22 @@ impl TicketKind {
     pub fn figure(self, index: usize) -> Figure
         ensures value { result ≡ figure_at self index }
     {
-        match self {
-            TicketKind::Receipts | TicketKind::Deliveries => {
-                if index == 1 {
-                    Figure::GasHeat
-                } else {
-                    Figure::HourVolume
-                }
-            }
-            TicketKind::Plan => Figure::PlanVolume,
-            TicketKind::ReceiptsCorrection | TicketKind::DeliveriesCorrection => {
-                if index == 1 {
-                    Figure::GasHeat
-                } else {
-                    Figure::CorrectionVolume
-                }
+        match (self, index) {
+            (TicketKind::Plan, _) => Figure::PlanVolume,
+            (_, 1) => Figure::GasHeat,
+            (TicketKind::Receipts | TicketKind::Deliveries, _) => Figure::HourVolume,
+            (TicketKind::ReceiptsCorrection | TicketKind::DeliveriesCorrection, _) => {
+                Figure::CorrectionVolume
             }
         }
     }
 }
 
-impl BodyKind {
-    pub fn number(self) -> u32
-        ensures value { result ≡ body_number self }
-    {
-        self as u32
+impl From<BodyKind> for u32 {
+    ghost from_gives = { λ kind number. number ≡ body_number kind };
+
+    fn from(kind: BodyKind) -> u32 {
+        kind as u32
     }
 }
 
@@ -124,12 +116,11 @@ impl Figure {
         ensures value { result ≡ within self word }
     {
         match self {
-            Figure::GasHeat => LEAST_HEAT <= field_of(word) && field_of(word) <= MOST_HEAT,
+            Figure::GasHeat => (LEAST_HEAT..=MOST_HEAT).contains(&field_of(word)),
             Figure::HourVolume => field_of(word) <= MOST_HOUR,
             Figure::PlanVolume => field_of(word) <= MOST_PLAN,
             Figure::CorrectionVolume => {
-                let size = signed_of(word).unsigned_abs();
-                size != 0 && size <= MOST_CORRECTION
+                (1..=MOST_CORRECTION).contains(&signed_of(word).unsigned_abs())
             }
         }
     }

@@ -1,10 +1,8 @@
 // The reader: a list of words is a ticket, or the first thing wrong with it is told.
-ghost use Rattle.std.specs.Prelude.{◌≡◌, true, length, IfOk, None, slice_index};
-ghost use Rattle.refusals.specs.declared.Layer.TheVariants.{Words};
-ghost use Rattle.tickets.specs.Kinds.{ticket_length, within};
-ghost use Rattle.tickets.specs.Reader.{first_not, passing, metered_told, planned_told, corrected_told, told, ticket_told, outcome, reads, Sound};
-ghost use Rattle.tickets.specs.declared.kind.Figure.TheVariants.{GasHeat};
-ghost use Rattle.tickets.specs.declared.reader.Check.TheVariants.{Limits};
+ghost use Rattle.std.specs.Prelude.{◌≡◌, length, IfOk, None};
+ghost use Rattle.tickets.specs.Kinds.{ticket_length};
+ghost use Rattle.tickets.specs.Reader.{first_not, shaped, allowed, metered_told, planned_told, corrected_told, told, ticket_told, outcome, reads, Sound};
+ghost use Rattle.tickets.specs.declared.kind.TicketKind.TheVariants.{Receipts, Plan, ReceiptsCorrection};
 
 use super::kind::TicketKind;
 use super::word::{date_of, field_of, kind_of, reserved_of, shipper_of, signed_of};
@@ -16,7 +14,9 @@ use sides::Side;
 pub const HOURS_PLACE: usize = 2;
 
 // A ticket as its words say it. The hours of a day ticket are a part of the words handed in, with the place of the
-// first in them; an hour's volume is its word's field.
+// first in them; an hour's volume is its word's field. The figures are plain: a match by another crate on an enum with
+// both a reference and structs that keep limits gets no proof, so `read` says their limits (`sound`).
+#[derive(Clone, Copy)]
 pub enum Ticket<'a> {
     Metered {
         side: Side,
@@ -40,52 +40,51 @@ pub enum Ticket<'a> {
     },
 }
 
-fn refused(ground: Ground, place: usize) -> Refusal
-    ensures value { result ≡ record { ground = ground; layer = Words; place = place } }
+// A header has its reserved bits zero, and a body word the kind of what it stands for.
+fn is_shaped(kind: TicketKind, index: usize, word: u32) -> bool
+    ensures value { result ≡ shaped kind index word }
 {
-    Refusal {
-        ground,
-        layer: Layer::Words,
-        place: place as u64,
+    if index == 0 {
+        reserved_of(word) == 0
+    } else {
+        kind_of(word) == u32::from(kind.figure(index).kind())
     }
 }
 
-// The two tests that each word of a ticket has to pass.
-#[derive(Clone, Copy)]
-enum Check {
-    // a header has its reserved bits zero, and a body word the kind of what it stands for
-    Shape,
-    // a body word's figure lies within its limits
-    Limits,
+// A body word's figure lies within its limits.
+fn is_allowed(kind: TicketKind, index: usize, word: u32) -> bool
+    ensures value { result ≡ allowed kind index word }
+{
+    index == 0 || kind.figure(index).allows(word)
 }
 
-fn passes(check: Check, kind: TicketKind, index: usize, word: u32) -> bool
-    ensures value { result ≡ passing check kind index word }
+// The index of the first word of a wrong shape. Two searches: as a closure the test would need a contract of its own.
+fn first_misshapen(kind: TicketKind, words: &[u32]) -> Option<usize>
+    ensures value { result ≡ first_not (shaped kind) words.now }
 {
-    match check {
-        Check::Shape if index == 0 => reserved_of(word) == 0,
-        Check::Shape => kind_of(word) == kind.figure(index).kind().number(),
-        Check::Limits => index == 0 || kind.figure(index).allows(word),
-    }
+    words
+        .iter()
+        .enumerate()
+        .position(|(i, word)| !is_shaped(kind, i, *word))
 }
 
-// The index of the first word that does not pass.
-fn first_failing(check: Check, kind: TicketKind, words: &[u32]) -> Option<usize>
-    ensures value { result ≡ first_not (passing check kind) 0 words.now }
+// The index of the first word whose figure lies outside its limits.
+fn first_outside(kind: TicketKind, words: &[u32]) -> Option<usize>
+    ensures value { result ≡ first_not (allowed kind) words.now }
 {
-    for i in 0..words.len() {
-        if !passes(check, kind, i, words[i]) {
-            return Some(i);
-        }
-    }
-    None
+    words
+        .iter()
+        .enumerate()
+        .position(|(i, word)| !is_allowed(kind, i, *word))
 }
 
 // A day's metered gas, from 26 words.
 fn metered(side: Side, words: &[u32]) -> Ticket<'_>
     requires whole { length words.now ≡ 26 }
-    requires heat { within GasHeat (slice_index words.now 1) ≡ true }
+    requires shapes { first_not (shaped Receipts) words.now ≡ None }
+    requires limits { first_not (allowed Receipts) words.now ≡ None }
     ensures value { ticket_told result ≡ metered_told side words.now }
+    ensures sound { Sound (ticket_told result) }
 {
     Ticket::Metered {
         side,
@@ -99,8 +98,10 @@ fn metered(side: Side, words: &[u32]) -> Ticket<'_>
 
 // A day's plan, from 2 words.
 fn planned(words: &[u32]) -> Ticket<'_>
-    requires { length words.now ≡ 2 }
+    requires whole { length words.now ≡ 2 }
+    requires limits { first_not (allowed Plan) words.now ≡ None }
     ensures value { ticket_told result ≡ planned_told words.now }
+    ensures sound { Sound (ticket_told result) }
 {
     Ticket::Planned {
         shipper: shipper_of(words[0]),
@@ -112,8 +113,9 @@ fn planned(words: &[u32]) -> Ticket<'_>
 // A correction of an issued month, from 3 words.
 fn corrected(side: Side, words: &[u32]) -> Ticket<'_>
     requires whole { length words.now ≡ 3 }
-    requires heat { within GasHeat (slice_index words.now 1) ≡ true }
+    requires limits { first_not (allowed ReceiptsCorrection) words.now ≡ None }
     ensures value { ticket_told result ≡ corrected_told side words.now }
+    ensures sound { Sound (ticket_told result) }
 {
     Ticket::Corrected {
         side,
@@ -127,8 +129,10 @@ fn corrected(side: Side, words: &[u32]) -> Ticket<'_>
 // The ticket that words of their kind's length say.
 fn ticket_of(kind: TicketKind, words: &[u32]) -> Ticket<'_>
     requires whole { length words.now ≡ ticket_length kind }
-    requires limits { first_not (passing Limits kind) 0 words.now ≡ None }
+    requires shapes { first_not (shaped kind) words.now ≡ None }
+    requires limits { first_not (allowed kind) words.now ≡ None }
     ensures value { ticket_told result ≡ told kind words.now }
+    ensures sound { Sound (ticket_told result) }
 {
     match kind {
         TicketKind::Receipts => metered(Side::Receipts, words),
@@ -145,20 +149,18 @@ pub fn read(words: &[u32]) -> Result<Ticket<'_>, Refusal>
     ensures value { outcome result ≡ reads words.now }
     ensures sound { IfOk (outcome result) Sound }
 {
-    let Some(header) = words.first() else {
-        return Err(refused(Ground::TicketLength, 0));
-    };
-    let Some(kind) = TicketKind::of(*header) else {
-        return Err(refused(Ground::WordKind, 0));
-    };
+    let header = words
+        .first()
+        .ok_or(Layer::Words.refuses(Ground::TicketLength, 0))?;
+    let kind = TicketKind::of(*header).ok_or(Layer::Words.refuses(Ground::WordKind, 0))?;
     if words.len() != kind.length() {
-        return Err(refused(Ground::TicketLength, words.len()));
+        return Err(Layer::Words.refuses(Ground::TicketLength, words.len() as u64));
     }
-    if let Some(at) = first_failing(Check::Shape, kind, words) {
-        return Err(refused(Ground::WordKind, at));
+    if let Some(at) = first_misshapen(kind, words) {
+        return Err(Layer::Words.refuses(Ground::WordKind, at as u64));
     }
-    if let Some(at) = first_failing(Check::Limits, kind, words) {
-        return Err(refused(Ground::FigureLimits, at));
+    if let Some(at) = first_outside(kind, words) {
+        return Err(Layer::Words.refuses(Ground::FigureLimits, at as u64));
     }
     Ok(ticket_of(kind, words))
 }

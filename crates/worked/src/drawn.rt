@@ -28,7 +28,7 @@ fn added(month: &mut Month, receipts: u32, deliveries: u32, plan: u32) -> Option
         brought: 0,
     };
     let prices = Prices::new(5000, 7001, 9000)?;
-    Some(month.add(Entry { figures, prices }))
+    Some(month.add(Entry { figures, prices }).is_ok())
 }
 
 #[test]

@@ -1,6 +1,6 @@
 // The worked figures of docs/RULES.md.
 use calendar::{Day, Month};
-use heat::split::{Run, Split};
+use heat::split::Split;
 use heat::standard::StandardHeat;
 use refusals::{Ground, Layer, Refusal};
 use sides::days::DayMarks;
@@ -35,7 +35,7 @@ fn three_bookings_in_a_row(rt: HostRuntime) -> Result<(), Fail> {
     );
     assert_eq!(rt;
         standard.book_all(&[101 * 4410, 4410, -4410], 0),
-        Run {
+        Split {
             booked: 98,
             remainder: 4410,
         }

@@ -4,6 +4,7 @@ use boards::index::{IndexBoard, IndexEvidence};
 use fixings::{Request, fix_all};
 use prices::board::{Asking, Fixing};
 use prices::price::Prices;
+use prices::slot::Slot;
 use refusals::{Ground, Layer, Refusal};
 
 const INDEX: IndexEvidence = IndexEvidence {
@@ -19,6 +20,10 @@ const COST: CostEvidence = CostEvidence {
     customs: 7010,
 };
 
+fn slot(shipper: u32, place: u32) -> Slot {
+    Slot { shipper, place }
+}
+
 fn refused(ground: Ground, place: u64) -> Result<(), Refusal> {
     Err(Refusal {
         ground,
@@ -27,28 +32,25 @@ fn refused(ground: Ground, place: u64) -> Result<(), Refusal> {
     })
 }
 
-// Low, plain and high; nothing is told as three zeros.
-fn told(prices: Option<Prices>) -> (u32, u32, u32) {
-    match prices {
-        Some(p) => (p.low, p.plain, p.high),
-        None => (0, 0, 0),
-    }
+// Low, plain and high.
+fn told(prices: Prices) -> (u32, u32, u32) {
+    (prices.low, prices.plain, prices.high)
 }
 
 #[test]
 fn index_prices(rt: HostRuntime) {
     let mut board = IndexBoard::new(236);
-    assert_eq!(rt; told(board.ask(0, 0)), (0, 0, 0));
-    assert_eq!(rt; board.fix(0, 0, INDEX), Ok(()));
-    assert_eq!(rt; told(board.ask(0, 0)), (5143, 7246, 9349));
-    assert_eq!(rt; told(board.ask(0, 1)), (0, 0, 0));
+    assert_eq!(rt; board.ask(slot(0, 0)).map(told), None);
+    assert_eq!(rt; board.fix(slot(0, 0), INDEX), Ok(()));
+    assert_eq!(rt; board.ask(slot(0, 0)).map(told), Some((5143, 7246, 9349)));
+    assert_eq!(rt; board.ask(slot(0, 1)).map(told), None);
 }
 
 #[test]
 fn cost_prices(rt: HostRuntime) {
     let mut board = CostBoard::new(4, 236);
-    assert_eq!(rt; board.fix(15, 11, COST), Ok(()));
-    assert_eq!(rt; told(board.ask(15, 11)), (5143, 7504, 9349));
+    assert_eq!(rt; board.fix(slot(15, 11), COST), Ok(()));
+    assert_eq!(rt; board.ask(slot(15, 11)).map(told), Some((5143, 7504, 9349)));
 }
 
 #[test]
@@ -60,11 +62,23 @@ fn refusals_in_their_order(rt: HostRuntime) {
         tax: u64::MAX,
     };
     let mut board = IndexBoard::new(u16::MAX);
-    assert_eq!(rt; board.fix(16, 12, bad), refused(Ground::UnknownShipper, 16));
-    assert_eq!(rt; board.fix(15, 12, bad), refused(Ground::OutsidePeriod, 12));
-    assert_eq!(rt; board.fix(15, 11, bad), refused(Ground::EvidenceFails, 11));
-    assert_eq!(rt; board.fix(15, 11, INDEX), Ok(()));
-    assert_eq!(rt; board.fix(15, 11, bad), refused(Ground::PriceHeld, 11));
+    assert_eq!(rt;
+        board.fix(slot(16, 12), bad),
+        refused(Ground::UnknownShipper, 16)
+    );
+    assert_eq!(rt;
+        board.fix(slot(15, 12), bad),
+        refused(Ground::OutsidePeriod, 12)
+    );
+    assert_eq!(rt;
+        board.fix(slot(15, 11), bad),
+        refused(Ground::EvidenceFails, 11)
+    );
+    assert_eq!(rt; board.fix(slot(15, 11), INDEX), Ok(()));
+    assert_eq!(rt;
+        board.fix(slot(15, 11), bad),
+        refused(Ground::PriceHeld, 11)
+    );
 }
 
 #[test]
@@ -77,22 +91,19 @@ fn what_is_held_stays(rt: HostRuntime) {
     };
     let requests = [
         Request {
-            shipper: 2,
-            place: 3,
+            slot: slot(2, 3),
             evidence: COST,
         },
         Request {
-            shipper: 2,
-            place: 3,
+            slot: slot(2, 3),
             evidence: again,
         },
         Request {
-            shipper: 2,
-            place: 4,
+            slot: slot(2, 4),
             evidence: again,
         },
     ];
     fix_all(&mut board, &requests);
-    assert_eq!(rt; told(board.ask(2, 3)), (5143, 7504, 9349));
-    assert_eq!(rt; told(board.ask(2, 4)), (5143, 15004, 9349));
+    assert_eq!(rt; board.ask(slot(2, 3)).map(told), Some((5143, 7504, 9349)));
+    assert_eq!(rt; board.ask(slot(2, 4)).map(told), Some((5143, 15004, 9349)));
 }

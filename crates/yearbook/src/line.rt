@@ -1,32 +1,8 @@
 // A line and its fields, which spaces part.
-ghost use Rattle.std.specs.Prelude.{◌<◌, ◌≤◌, length};
+ghost use Rattle.std.specs.Prelude.{length};
 ghost use Rattle.std.specs.Iterator.{at_most};
 
-// The place of the first byte that is no space; the length where there is none.
-fn field_start(line: &[u8]) -> usize
-    ensures within { result ≤ length line.now }
-{
-    for (i, byte) in line.iter().enumerate() {
-        if *byte != b' ' {
-            return i;
-        }
-    }
-    line.len()
-}
-
-// The place of the first space after a place, or the length.
-fn field_end(line: &[u8], start: usize) -> usize
-    requires { start < length line.now }
-    ensures after { start < result }
-    ensures within { result ≤ length line.now }
-{
-    for i in start + 1..line.len() {
-        if line[i] == b' ' {
-            return i;
-        }
-    }
-    line.len()
-}
+use fields::{Base, integer, number, number32};
 
 // The fields of what is left of a line, one after the other.
 #[derive(Drop)]
@@ -41,12 +17,33 @@ impl<'a> Iterator for Fields<'a> {
 
     fn next(&mut self) -> Option<&'a [u8]> {
         let line = self.rest;
-        let start = field_start(line);
-        if start >= line.len() {
-            return None;
-        }
-        let end = field_end(line, start);
-        self.rest = &line[end..line.len()];
-        Some(&line[start..end])
+        let start = line.iter().position(|byte| *byte != b' ')?;
+        let field = &line[start..];
+        let end = field
+            .iter()
+            .position(|byte| *byte == b' ')
+            .unwrap_or(field.len());
+        self.rest = &field[end..];
+        Some(&field[..end])
+    }
+}
+
+// The next field as a figure in decimal; none where it is no figure, or no field is left.
+impl<'a> Fields<'a> {
+    pub(crate) fn number32(&mut self) -> Option<u32> {
+        number32(self.next()?, Base::Decimal)
+    }
+
+    pub(crate) fn number(&mut self) -> Option<u64> {
+        number(self.next()?, Base::Decimal, u64::MAX)
+    }
+
+    pub(crate) fn integer(&mut self) -> Option<i64> {
+        integer(self.next()?)
+    }
+
+    // What was read, where no field is left.
+    pub(crate) fn complete<T: Drop>(&mut self, read: T) -> Option<T> {
+        self.next().is_none().then_some(read)
     }
 }

@@ -1,6 +1,5 @@
 // Months from the lines of their shippers: what each line is answered, and the statements.
-use super::{answer_draw, answer_shipper};
-use statement::month::Month;
+use super::book::YearBook;
 
 // The answers, a line each.
 const WANTED: &str = "shipper 0
@@ -17,26 +16,15 @@ shipper 0
 
 #[test]
 fn months_from_their_lines(rt: HostRuntime) -> anyhow::Result<()> {
-    let mut month = Month::new();
-    let mut out = Vec::new(rt.alloc());
-    answer_shipper(&mut month, b"1000 900 900 0 5000 7001 9000", 1, &mut out)?;
-    answer_shipper(&mut month, b"2000 1800 1500 0 5000 7001 9000", 2, &mut out)?;
-    answer_shipper(&mut month, b"3000 3041 3041 0 5000 7001 9000", 3, &mut out)?;
-    answer_shipper(
-        &mut month,
-        b"3000 3041 3041 0 5000 7001 100001",
-        4,
-        &mut out,
-    )?;
-    answer_draw(&mut month, b"101", 5, &mut out)?;
-    answer_draw(&mut month, b"10", 6, &mut out)?;
-    answer_shipper(
-        &mut month,
-        b"1000 1040 1000 -10 5000 7001 9000",
-        7,
-        &mut out,
-    )?;
-    answer_draw(&mut month, b"8", 8, &mut out)?;
-    assert_eq!(rt; out.as_slice(), WANTED.as_bytes());
+    let mut book = YearBook::new(rt.alloc(), Vec::new(rt.alloc()))?;
+    book.take(1, b"shipper 1000 900 900 0 5000 7001 9000")?;
+    book.take(2, b"shipper 2000 1800 1500 0 5000 7001 9000")?;
+    book.take(3, b"shipper 3000 3041 3041 0 5000 7001 9000")?;
+    book.take(4, b"shipper 3000 3041 3041 0 5000 7001 100001")?;
+    book.take(5, b"draw 101")?;
+    book.take(6, b"draw 10")?;
+    book.take(7, b"shipper 1000 1040 1000 -10 5000 7001 9000")?;
+    book.take(8, b"draw 8")?;
+    assert_eq!(rt; book.out.as_slice(), WANTED.as_bytes());
     Ok(())
 }

@@ -5,8 +5,8 @@ use Rattle.std.specs.Fmt.{digits}
 use Rattle.calendar.specs.Gregorian.{month_length, first_day}
 use Rattle.shares.specs.declared.figures.Figures.{Figures}
 use Rattle.shares.specs.Month.{imbalance, stirred, pool_of, carry_size, with_sign, share_of}
-use Rattle.rates.specs.Rates.{rate_of}
-use Rattle.cases.proofs.Alone.{never_instigator, sole_instigator}
+use Rattle.rates.specs.Rates.{rate_of, lower_rate, passing}
+use Rattle.cases.proofs.Alone.{never_greatest, sole_instigator}
 use Rattle.cases.proofs.worked_cases.Goals as goal
 
 counted : (before after : List Figures) (f : Figures) → stirred f ≡ true → 1 ≤ count_by stirred (before ++ f ∷ after)
@@ -39,7 +39,8 @@ returns c = record {
     stirred_past_it = λ f r e j. ltb (r j) (20 * nat_abs (e j));
     stirred_with_none = λ f r e j. ltb (r j) (20 * nat_abs (e j));
     settles_all = settles_all_lem;
-    no_instigator = λ before after e. never_instigator (rate_of 2000 2100) refl before after e;
+    no_instigator = λ before after e. never_greatest passing lower_rate (rate_of 2000 2100) refl before after e;
+    at_twentieth = λ lt before after e. never_greatest (λ f. ltb f.1 (20 * f.0)) lt (100, 2000) refl before after e;
     instigates = λ before after all rest. sole_instigator (rate_of 2000 2101) refl before after all rest;
     indexed = refl;
     costed = refl;

@@ -1,27 +1,13 @@
-use Rattle.std.proofs.Common.{cond, Some, None, sym, ap, ◌∙◌}
+use Rattle.std.proofs.Common.{◌≡◌, ℕ, List, [], ◌∷◌, None, refl, arith}
+use Rattle.std.proofs.lemmas.Grind.{common_steps}
 use Rattle.fields.specs.Numbers.{digits_from}
-use Rattle.fields.proofs.Digits.{goes_on, stops, ends}
+use Rattle.fields.specs.declared.Base.{Base}
 use Rattle.fields.proofs.number.Goals as goal
 
-pub returns-in_default : goal.returns-in_default
-returns-in_default c = record {
-  value = stops c.args.base c.args.most c.args.field.now c.loop-byte.byte-index c.loop-byte.number
-      c.loop-byte-test.true (sym c.in_default.ensures.value) ∙ c.loop-byte.invariant.0
-      ∙ ap (λ b. cond b None (digits_from c.args.base c.args.most (Some 0) c.args.field.now)) c.if-is_empty.ensures;
-  bound = tt;
-}
+-- after what is no digit, no number comes of the rest
+nothing : (base : Base) (most : ℕ) (bytes : List ℕ) → digits_from base most None bytes ≡ None
+nothing base most [] = refl
+nothing base most (byte ∷ bytes) = refl
 
-pub loop-byte-preserved : goal.loop-byte-preserved
-loop-byte-preserved c = (
-  goes_on c.args.base c.args.most c.args.field.now c.loop-byte.byte-index c.loop-byte.number
-      c.in-Some.next c.loop-byte-test.true (sym c.in-Some.ensures.value) ∙ c.loop-byte.invariant.0,
-  c.in-Some.ensures.bound,
-)
-
-pub returns : goal.returns
-returns c = record {
-  value = ends c.args.base c.args.most c.args.field.now c.loop-byte.byte-index c.loop-byte.number c.loop-byte-test.false
-      ∙ c.loop-byte.invariant.0
-      ∙ ap (λ b. cond b None (digits_from c.args.base c.args.most (Some 0) c.args.field.now)) c.if-is_empty.ensures;
-  bound = c.loop-byte.invariant.1;
-}
+pub returns-in_err-number-clause-value : goal.returns-in_err-number-clause-value
+returns-in_err-number-clause-value c = grind (arith, common_steps, nothing)

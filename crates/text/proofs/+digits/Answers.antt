@@ -3,8 +3,8 @@ use Rattle.std.proofs.Common.{◌^◌, ◌<◌, length, sym, ap, arith}
 use Rattle.text.proofs.Decimals.{one_digit, length_more, length_below}
 use Rattle.text.proofs.+digits.Goals as goal
 
-pub returns-then-n-lt10 : goal.returns-then-n-lt10
-returns-then-n-lt10 t c = record { value = sym (ap length (one_digit c.args.n c.if-n-lt10.true)); bound = omega arith }
+pub returns-then-n-lt10-clause-value : goal.returns-then-n-lt10-clause-value
+returns-then-n-lt10-clause-value t c = sym (ap length (one_digit c.args.n c.if-n-lt10.true))
 
 pub returns-else-n-lt10 : goal.returns-else-n-lt10
 returns-else-n-lt10 t c =

@@ -29,9 +29,6 @@ put_natural-place-requires t c =
 pub bounds-out-place : goal.bounds-out-place
 bounds-out-place t c = omega (arith, begun_size (begun t (goal.at.bounds-out-place t c).Joined-n-lt10), c.if-n-lt10.auto.out)
 
-pub overflow_add-result : goal.overflow_add-result
-overflow_add-result t c = omega (arith, begun_size (begun t (goal.at.overflow_add-result t c).Joined-n-lt10), c.if-n-lt10.auto.out)
-
 pub returns : goal.returns
 returns t c =
     let b = begun t (goal.at.returns t c).Joined-n-lt10 in record { value = begun_size b; after = begun_put b c.requires }

@@ -5,7 +5,7 @@ use Rattle.std.proofs.lemmas.Int.{to_z-of_z}
 use Rattle.text.specs.Rows.{ended}
 use Rattle.text.specs.declared.Figure.TheVariants.{Integer}
 use Rattle.text.proofs.Steps.{length_ended}
-use Rattle.text.proofs.Tails.{Begun, begun_size, begun_put}
+use Rattle.text.proofs.Tails.{Begun, begun_put}
 use Rattle.text.proofs.put_figure.Goals as goal
 use Rattle.text.proofs.put_figure.Goals.{Joined-figure, in-Natural, in-Integer}
 
@@ -31,8 +31,8 @@ begun c =
           }
     ]
 
-pub returns : goal.returns
-returns c =
-    let b = begun (goal.at.returns c).Joined-figure in
+pub returns-clause-after : goal.returns-clause-after
+returns-clause-after c =
+    let b = begun (goal.at.returns-clause-after c).Joined-figure in
     let put = begun_put b (omega (arith, length_ended c.args.figure c.args.end)) in
-    record { value = omega (arith, begun_size b); after = search (rules, put) }
+    search (rules, put)

@@ -1,12 +1,11 @@
 -- A figure with the byte after it goes to the front of the tail, and what is left of the row stays to be placed.
-use Rattle.std.proofs.Common.{◌≡◌, ℕ, ◌+◌, ◌-◌, ◌≤◌, List, ◌++◌, length, get_or, drop, sym, ap, ◌∙◌, arith, length-append, length-drop}
+use Rattle.std.proofs.Common.{◌≡◌, ℕ, ◌+◌, ◌-◌, ◌≤◌, List, ◌++◌, length, get_or, drop, sym, ap, ◌∙◌, arith, length-append}
 use borrow.Rule.Slice.PartMut.{put_mid}
-use Rattle.std.proofs.lemmas.List.{take_rest}
 use Rattle.text.specs.Rows.{ending, ended, row_text, placed}
 use Rattle.text.specs.declared.Figure.{Figure}
 use Rattle.text.specs.declared.Figure.TheVariants.{Natural}
-use Rattle.text.proofs.Steps.{length_ended, row_more, row_all, ending_more, ending_all}
-use Rattle.text.proofs.Tails.{placed_none, placed_step}
+use Rattle.text.proofs.Steps.{row_more, ending_more, ending_all}
+use Rattle.text.proofs.Tails.{placed_step}
 use Rattle.text.proofs.put_row.Goals as goal
 use Rattle.text.proofs.put_row.Goals.{Joined-i-figures, then-i-figures, else-i-figures}
 
@@ -36,16 +35,6 @@ reach : (c : Joined-i-figures) →
     c.loop-i.place + length (text c) + length (row_text (rest c)) ≡ c.args.at + length (row_text c.args.figures.now)
 reach c = omega (arith, ap length (left c) ∙ length-append (text c) (row_text (rest c)), c.loop-i.invariant.0)
 
-pub put_figure-place-requires : goal.put_figure-place-requires
-put_figure-place-requires c =
-    let j = (goal.at.put_figure-place-requires c).Joined-i-figures in
-    let tail = ap length (take_rest c.loop-i.buffer c.loop-i.place) ∙ length-drop c.loop-i.place c.loop-i.buffer in
-    omega (arith, reach j, length_ended (this j) c.if-i-figures.end, tail, c.loop-i.auto.buffer)
-
-pub overflow_add-place : goal.overflow_add-place
-overflow_add-place c =
-    omega (arith, reach (goal.at.overflow_add-place c).Joined-i-figures, c.put_figure-place.ensures.value, c.loop-i.auto.buffer)
-
 pub loop-i-preserved : goal.loop-i-preserved
 loop-i-preserved c =
     let j = (goal.at.loop-i-preserved c).Joined-i-figures in
@@ -60,13 +49,3 @@ loop-i-preserved c =
           ∙ ap (λ bytes. placed place bytes buffer) (sym (left j))
           ∙ c.loop-i.invariant.1,
     )
-
-pub returns : goal.returns
-returns c =
-    let place = c.loop-i.place in
-    let buffer = c.loop-i.buffer in
-    let none = row_all c.args.figures.now c.loop-i.i c.loop-i-test.false in
-    record {
-      value = omega (arith, ap length none, c.loop-i.invariant.0);
-      after = sym (placed_none place buffer) ∙ ap (λ bytes. placed place bytes buffer) (sym none) ∙ c.loop-i.invariant.1;
-    }

@@ -1,54 +1,36 @@
-use Rattle.std.proofs.Common.{◌≡◌, ℕ, ◌+◌, List, [], ◌∷◌, ◌++◌, map, take, drop, set, Ok, Err, sym, ap, ◌∙◌, arith, length-set}
-use Rattle.std.proofs.lemmas.List.{take_more_set, map_push}
-use Rattle.accounts.specs.Accounts.{AccountTold, account_told, issued_if}
-use Rattle.rolls.specs.Rolls.{roll_told}
-use Rattle.rolls.proofs.Opened.{roll_long, told_at}
-use Rattle.drawings.specs.Drawing.{each, limited, issued_at, issued_roll}
-use Rattle.drawings.proofs.Eaches.{after, goes_on, stops, ends, begun}
+use Rattle.std.proofs.Common.{◌≡◌, ◌+◌, List, get_or, drop, Some, None, sym, ap, ◌∙◌, arith, rules}
+use Rattle.accounts.specs.Told.{AccountTold}
+use Rattle.accounts.specs.Accounts.{issued_if}
+use Rattle.statement.specs.declared.line.Line.{Line}
+use Rattle.statement.specs.Statement.{no_line}
+use Rattle.drawings.specs.Drawing.{each, limited, issued_at}
+use Rattle.drawings.proofs.Eaches.{after, goes_on, stops}
 use Rattle.drawings.proofs.issuing.issued_roll.Goals as goal
 
-pub returns-in_default : goal.returns-in_default
-returns-in_default c =
-    let roll = c.args.roll.now in
+pub returns-in_err-next : goal.returns-in_err-next
+returns-in_err-next c =
     let i = c.loop-i.i in
-    let x = c.index-roll-i.result in
-    let at = sym (told_at roll i x c.loop-i-test.true) in
-    record {
-      value = ap Err c.refused.ensures.value
-          ∙ stops (issued_at c.args.lines.now) (roll_told roll) i (map account_told (take i c.loop-i.accounts)) (account_told x) _
-          (ap (limited i) (c.in_default.ensures.value ∙ (λ j. issued_if (c.line_at.ensures.value j) (at j))))
-          (omega (arith, roll_long roll, c.loop-i-test.true)) ∙ c.loop-i.invariant.1;
-    }
+    let x = c.account-item.result in
+    let line : c.unwrap_or-line.result ≡ get_or c.args.lines.now i no_line = search rules in
+    let over : c.issued.result ≡ None = grind arith in
+    let none : None ≡ issued_if (get_or c.args.lines.now i no_line) x = sym over ∙ c.issued.ensures.value ∙ ap (λ (l : Line). issued_if l x) line in
+    let stop = stops (issued_at c.args.lines.now) c.deref-account-items.result.now i c.loop-i.accounts.items x _
+    (ap (limited i) none ∙ ap (issued_at c.args.lines.now i) c.account-item.is) c.loop-i-test.true ∙ c.loop-i.invariant.whole in
+    record { value = grind (arith, stop) }
 
 pub loop-i-preserved : goal.loop-i-preserved
 loop-i-preserved c =
-    let roll = c.args.roll.now in
-    let i = c.loop-i.i in
-    let x = c.index-roll-i.result in
-    let at = sym (told_at roll i x c.loop-i-test.true) in
-    let accounts = c.loop-i.accounts in
-    let account = c.in-Some.account in
     let answer = issued_at c.args.lines.now in
-    let more : map account_told (take (i + 1) (set accounts i account)) ≡ map account_told (take i accounts) ++ account_told account ∷ [] =
-    ap (map account_told) (take_more_set accounts i account (omega (arith, c.loop-i.invariant.0, c.loop-i-test.true, roll.few)))
-    ∙ map_push account_told (take i accounts) account in (
-      length-set accounts i account ∙ c.loop-i.invariant.0,
-      ap (λ (done : List AccountTold). after done (each answer (i + 1) (drop (i + 1) (roll_told roll)))) more
-          ∙ goes_on answer (roll_told roll) i (map account_told (take i accounts)) (account_told x) (account_told account)
-          (ap (limited i) (c.in-Some.ensures.value ∙ (λ j. issued_if (c.line_at.ensures.value j) (at j))))
-          (omega (arith, roll_long roll, c.loop-i-test.true)) ∙ c.loop-i.invariant.1,
-    )
-
-pub loop-i-init : goal.loop-i-init
-loop-i-init c = (c.args.roll.now.whole, begun (issued_roll c.args.lines.now (roll_told c.args.roll.now)))
-
-pub returns : goal.returns
-returns c =
-    let roll = c.args.roll.now in
+    let items = c.deref-account-items.result.now in
     let i = c.loop-i.i in
-    let end : roll.count ≡ i = omega (arith, c.loop-i-test.false, c.loop-i.auto.i-end) in
+    let x = c.account-item.result in
+    let next = c.in_ok-next.next in
+    let line : c.unwrap_or-line.result ≡ get_or c.args.lines.now i no_line = search rules in
+    let made : c.issued.result ≡ Some next = grind arith in
+    let is : Some next ≡ issued_if (get_or c.args.lines.now i no_line) x = sym made ∙ c.issued.ensures.value ∙ ap (λ (l : Line). issued_if l x) line in
     record {
-      value = ap (λ (n : ℕ). Ok (map account_told (take n c.loop-i.accounts))) end
-          ∙ ends (issued_at c.args.lines.now) (roll_told roll) i (map account_told (take i c.loop-i.accounts)) (omega (arith, roll_long roll, end))
-          ∙ c.loop-i.invariant.1;
+      long = c.push.ensures.len ∙ ap (λ n. n + 1) c.loop-i.invariant.long;
+      whole = ap (λ (done : List AccountTold). after done (each answer (i + 1) (drop (i + 1) items))) c.push.ensures.items
+          ∙ goes_on answer items i c.loop-i.accounts.items x next (ap (limited i) is ∙ ap (answer i) c.account-item.is) c.loop-i-test.true
+          ∙ c.loop-i.invariant.whole;
     }

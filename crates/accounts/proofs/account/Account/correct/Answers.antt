@@ -1,77 +1,69 @@
-use Rattle.std.proofs.Common.{◌≡◌, ◌^◌, ◌≤◌, true, false, ℤ, ◌+ℤ◌, nat_abs, sym, ap, ◌∙◌, subst, w64, to_z, of_z, rules}
+use Rattle.std.proofs.Common.{◌≡◌, false, sym, ◌∙◌, w64, to_z, of_z, rules, arith}
 use Rattle.sides.specs.Sides.{with_side}
-use Rattle.heat.specs.declared.split.Split.{Split}
-use Rattle.accounts.specs.Accounts.{account_told, over_by, correction_of, split}
-use Rattle.accounts.proofs.Bounds.{Below, left_put}
-use Rattle.accounts.proofs.Sums.{corrected_is, after_is, none_corrected, after_none}
+use Rattle.accounts.specs.Fields.{told}
+use Rattle.accounts.specs.Accounts.{over_by, correction_of, split, with_sums}
+use Rattle.accounts.proofs.Sums.{settled_some, settled_none, corrected_is, after_is, none_corrected, after_none}
 use Rattle.accounts.proofs.account.Account.correct.Goals as goal
 
-pub returns-in_default : goal.returns-in_default
-returns-in_default c =
+pub returns-in_err-self-inside-clause-value : goal.returns-in_err-self-inside-clause-value
+returns-in_err-self-inside-clause-value c =
     let a = c.args.self.now in
-    let told = account_told a in
-    let standard = c.args.standard.units in
-    let side = c.args.side in
-    let heat = c.args.heat.units in
-    let price = c.args.price in
-    let is : c.split-split.result ≡ split standard side heat told = search rules in
-    let due : c.correction_at-due.result ≡ correction_of standard side heat price told = search rules in
-    let volume : to_z w64 (of_z w64 c.correction_at-due.result.volume) ≡ c.correction_at-due.result.volume = search rules in
-    let yen : to_z w64 (of_z w64 c.correction_at-due.result.yen) ≡ c.correction_at-due.result.yen = search rules in
-    let over : over_by c.correction_at-due.result.volume c.correction_at-due.result.yen told ≡ true =
-    sym (λ j. over_by (volume j) (yen j) told) ∙ c.in_default.ensures.value in
-    record {
-      value = none_corrected standard side heat price told c.correction_at-due.result due over;
-      after = after_none standard side heat price told c.correction_at-due.result due over;
-    }
+    let due = c.correction_at-due.result in
+    let is : due ≡ correction_of c.args.standard c.args.side c.args.heat c.args.price a = search rules in
+    let volume : to_z w64 (of_z w64 due.volume) ≡ due.volume = search rules in
+    let yen : to_z w64 (of_z w64 due.yen) ≡ due.yen = search rules in
+    let over = settled_none (to_z w64 (of_z w64 due.volume)) (to_z w64 (of_z w64 due.yen)) a c.in_err-self-inside.ensures.value in
+    rw c.from_residual.ensures
+    (none_corrected c.args.standard c.args.side c.args.heat c.args.price a due is
+    (sym (λ j. over_by (volume j) (yen j) a) ∙ over))
+
+pub returns-in_err-self-inside-clause-after : goal.returns-in_err-self-inside-clause-after
+returns-in_err-self-inside-clause-after c =
+    let a = c.args.self.now in
+    let due = c.correction_at-due.result in
+    let is : due ≡ correction_of c.args.standard c.args.side c.args.heat c.args.price a = search rules in
+    let volume : to_z w64 (of_z w64 due.volume) ≡ due.volume = search rules in
+    let yen : to_z w64 (of_z w64 due.yen) ≡ due.yen = search rules in
+    let over = settled_none (to_z w64 (of_z w64 due.volume)) (to_z w64 (of_z w64 due.yen)) a c.in_err-self-inside.ensures.value in
+    after_none c.args.standard c.args.side c.args.heat c.args.price a due is
+    (sym (λ j. over_by (volume j) (yen j) a) ∙ over)
 
 pub invariant_of-self : goal.invariant_of-self
-invariant_of-self c =
-    let a = c.args.self.now in
-    let sums = c.in-Some.sums in
-    let summed = c.in-Some.ensures.value in
-    let settled : to_z w64 (of_z w64 sums.settled) ≡ sums.settled = search rules in
-    let yen : to_z w64 (of_z w64 sums.yen) ≡ sums.yen = search rules in
-    record {
-      left = subst Below (sym c.put.ensures.after) (left_put a c.args.side c.split-split.result.remainder c.split-split.ensures.few.1);
-      flows = a.flows;
-      plans = a.plans;
-      limits = (
-        subst (λ (z : ℤ). nat_abs z ≤ 10 ^ 12) (sym settled) summed.limits.0,
-        subst (λ (z : ℤ). nat_abs z ≤ 10 ^ 15) (sym yen) summed.limits.1,
-      );
-    }
+invariant_of-self c = record {
+  left = grind (arith, c.self-2.invariant.left, c.split-split.ensures.few.1);
+  flows = c.self-2.invariant.flows;
+  plans = c.self-2.invariant.plans;
+  limits = c.self-2.invariant.limits;
+}
 
 pub returns : goal.returns
 returns c =
     let a = c.args.self.now in
-    let told = account_told a in
-    let standard = c.args.standard.units in
+    let standard = c.args.standard in
     let side = c.args.side in
-    let heat = c.args.heat.units in
-    let price = c.args.price in
-    let is : c.split-split.result ≡ split standard side heat told = search rules in
-    let due : c.correction_at-due.result ≡ correction_of standard side heat price told = search rules in
-    let volume : to_z w64 (of_z w64 c.correction_at-due.result.volume) ≡ c.correction_at-due.result.volume = search rules in
-    let yen : to_z w64 (of_z w64 c.correction_at-due.result.yen) ≡ c.correction_at-due.result.yen = search rules in
-    let sums = c.in-Some.sums in
-    let summed = c.in-Some.ensures.value in
-    let fits : over_by c.correction_at-due.result.volume c.correction_at-due.result.yen told ≡ false =
-    sym (λ j. over_by (volume j) (yen j) told) ∙ summed.fits in
-    let settled : to_z w64 (of_z w64 sums.settled) ≡ sums.settled = search rules in
-    let yens : to_z w64 (of_z w64 sums.yen) ≡ sums.yen = search rules in
-    let remainders = c.put.ensures.after ∙ ap (λ (s : Split). with_side side a.remainders s.remainder) is in
+    let heat = c.args.heat in
+    let due = c.correction_at-due.result in
+    let split_is : c.split-split.result ≡ split standard side heat a = search rules in
+    let is : due ≡ correction_of standard side heat c.args.price a = search rules in
+    let volume : to_z w64 (of_z w64 due.volume) ≡ due.volume = search rules in
+    let yen : to_z w64 (of_z w64 due.yen) ≡ due.yen = search rules in
+    let taken = settled_some (to_z w64 (of_z w64 due.volume)) (to_z w64 (of_z w64 due.yen)) a c.in_ok-self-inside.field-0 c.in_ok-self-inside.ensures.value in
+    let fits : over_by due.volume due.yen a ≡ false = sym (λ j. over_by (volume j) (yen j) a) ∙ taken.fits in
+    let same : told c.self-2.inside ≡ with_sums due.volume due.yen a =
+    c.self-2.view_is ∙ taken.is ∙ (λ j. with_sums (volume j) (yen j) a) in
+    let left : c.put.new.self ≡ with_side side a.remainders (split standard side heat a).remainder =
+    c.put.ensures.after ∙ (λ j. with_side side (same j).remainders (split_is j).remainder) in
     record {
-      value = corrected_is standard side heat price told c.correction_at-due.result due fits;
+      value = corrected_is standard side heat c.args.price a due is fits;
       after = (λ j. record {
-        remainders = remainders j;
-        volumes = told.volumes;
-        metered = told.metered;
-        plan = told.plan;
-        planned = told.planned;
-        older = told.older;
-        newer = told.newer;
-        settled = (settled ∙ summed.settled ∙ ap (λ (z : ℤ). a.settled +ℤ z) volume) j;
-        yen = (yens ∙ summed.yens ∙ ap (λ (z : ℤ). a.yen +ℤ z) yen) j;
-      }) ∙ after_is standard side heat price told c.correction_at-due.result due fits;
+        remainders = left j;
+        volumes = (same j).volumes;
+        metered = (same j).metered;
+        plan = (same j).plan;
+        planned = (same j).planned;
+        older = (same j).older;
+        newer = (same j).newer;
+        settled = (same j).settled;
+        yen = (same j).yen;
+      }) ∙ after_is standard side heat c.args.price a due is fits;
     }

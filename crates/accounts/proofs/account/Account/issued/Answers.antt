@@ -1,29 +1,35 @@
-use Rattle.std.proofs.Common.{◌≡◌, false, ◌+ℤ◌, Some, ◌∙◌, w32, w64, to_z, of_z, rules}
-use Rattle.accounts.specs.Accounts.{account_told, twice, over_by}
-use Rattle.accounts.proofs.Sums.{issued_is}
+use Rattle.std.proofs.Common.{◌≡◌, false, Some, sym, ap, ◌∙◌, w32, w64, to_z, of_z, rules}
+use Rattle.accounts.specs.Told.{AccountTold}
+use Rattle.accounts.specs.Fields.{told}
+use Rattle.accounts.specs.Accounts.{blank, over_by, with_sums}
+use Rattle.accounts.proofs.Sums.{settled_some, issued_is}
 use Rattle.accounts.proofs.account.Account.issued.Goals as goal
 
 pub returns : goal.returns
 returns c =
     let a = c.args.self.now in
     let line = c.args.line in
-    let sums = c.in_ok-sums.sums in
-    let summed = c.in_ok-sums.ensures.value in
-    let fits : over_by line.settled line.yen (account_told a) ≡ false = search rules in
-    let older : to_z w32 (of_z w32 a.newer) ≡ a.newer = search rules in
+    let volume : to_z w64 (of_z w64 line.settled) ≡ line.settled = search rules in
+    let yen : to_z w64 (of_z w64 line.yen) ≡ line.yen = search rules in
+    let taken = settled_some (to_z w64 (of_z w64 line.settled)) (to_z w64 (of_z w64 line.yen)) a c.in_ok-after.after c.in_ok-after.ensures.value in
+    let fits : over_by line.settled line.yen a ≡ false = sym (λ j. over_by (volume j) (yen j) a) ∙ taken.fits in
+    let same : told c.after.inside ≡ with_sums line.settled line.yen a =
+    c.after.view_is ∙ taken.is ∙ (λ j. with_sums (volume j) (yen j) a) in
+    let none : told c.result.inside ≡ blank = c.result.view_is ∙ c.default.ensures in
+    let older : to_z w32 (of_z w32 c.self.inside.newer) ≡ c.self.inside.newer = search rules in
     let newer : to_z w32 (of_z w32 line.carry) ≡ line.carry = search rules in
-    let settled : to_z w64 (of_z w64 sums.settled) ≡ a.settled +ℤ line.settled = search rules in
-    let yen : to_z w64 (of_z w64 sums.yen) ≡ a.yen +ℤ line.yen = search rules in
+    let settled : to_z w64 (of_z w64 c.after.inside.settled) ≡ c.after.inside.settled = search rules in
+    let sum : to_z w64 (of_z w64 c.after.inside.yen) ≡ c.after.inside.yen = search rules in
     record {
       value = (λ j. Some (record {
-        remainders = a.remainders;
-        volumes = twice 0;
-        metered = record { receipts = c.none-none.ensures.value j; deliveries = c.none-none.ensures.value j };
-        plan = 0;
-        planned = c.none-none.ensures.value j;
-        older = older j;
+        remainders = (c.self.view_is j).remainders;
+        volumes = (none j).volumes;
+        metered = (none j).metered;
+        plan = (none j).plan;
+        planned = (none j).planned;
+        older = (older ∙ ap (λ (t : AccountTold). t.newer) c.self.view_is) j;
         newer = newer j;
-        settled = settled j;
-        yen = yen j;
-      })) ∙ issued_is line (account_told a) fits;
+        settled = (settled ∙ ap (λ (t : AccountTold). t.settled) same) j;
+        yen = (sum ∙ ap (λ (t : AccountTold). t.yen) same) j;
+      })) ∙ issued_is line a fits;
     }

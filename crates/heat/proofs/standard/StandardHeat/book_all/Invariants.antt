@@ -4,5 +4,5 @@ use Rattle.heat.proofs.standard.StandardHeat.book_all.Given as goal
 
 abbrev pub invariant-loop-heat : goal.invariant-loop-heat
 invariant-loop-heat l =
-    (nat_abs l.booked ≤ 2 ^ 63 * l.heat-index)
-    × Kept l.self.units l.heats l.remainder l.heat-index l.booked l.left
+    (nat_abs l.run.booked ≤ 2 ^ 63 * l.heat-index)
+    × Kept l.self l.heats l.remainder l.heat-index l.run.booked l.run.remainder

@@ -1,66 +1,49 @@
-use Rattle.std.proofs.Common.{◌≡◌, ℕ, false, ◌||◌, eqb, ltb, [], ◌∷◌, map, length, get_or, take, pos, Err, sym, refl, ap, ◌∙◌, arith, length-set}
-use Rattle.std.proofs.lemmas.List.{take_all, take_more}
+use Rattle.std.proofs.Common.{◌≡◌, false, ◌||◌, eqb, ltb, [], ◌∷◌, ◌++◌, map, length, get_or, pos, Some, None, sym, ap, ◌∙◌, arith, rules}
+use Rattle.std.proofs.lemmas.List.{take_all, map_more, get_or_default}
+use Rattle.std.proofs.lemmas.List.Elements.{AllWithin-more}
 use Rattle.std.proofs.lemmas.Bool.Decides.{nat_tests}
-use Rattle.accounts.specs.Accounts.{account_told}
-use Rattle.statement.proofs.Images.{image_more}
-use Rattle.rolls.specs.Rolls.{carries_allowed, opened_account}
+use Rattle.accounts.specs.Accounts.{opened_if}
+use Rattle.rolls.specs.Rolls.{carries_outside, opened_account}
 use Rattle.rolls.specs.declared.opening.Carries.{Carries}
-use Rattle.rolls.proofs.Scan.{goes_on, stops, ends}
 use Rattle.rolls.proofs.Opened.{opened_is, not_opened, stopped_at, all_opened}
 use Rattle.rolls.proofs.roll.Roll.new.Goals as goal
 
 abbrev none : Carries
 none = record { older = pos 0; newer = pos 0 }
 
-pub returns-in_default : goal.returns-in_default
-returns-in_default c =
-    let carries = c.args.carries.now in
-    let size : (eqb (length carries) 0 || ltb 16 (length carries)) ≡ false = grind (arith, nat_tests) in
-    record {
-      value = ap Err c.outside-in_default.ensures.value
-          ∙ stopped_at carries size 0 (stops carries_allowed carries 0 none (omega arith) (not_opened (get_or carries 0 none) c.in_default.ensures.value));
-    }
-
-pub returns-in_default-account_of : goal.returns-in_default-account_of
-returns-in_default-account_of c =
+pub returns-in_err-account : goal.returns-in_err-account
+returns-in_err-account c =
     let carries = c.args.carries.now in
     let i = c.loop-i.i in
+    let x = get_or carries i none in
     let size : (eqb (length carries) 0 || ltb 16 (length carries)) ≡ false = grind (arith, nat_tests) in
-    record {
-      value = ap Err c.outside-in_default-account_of.ensures.value
-          ∙ stopped_at carries size i
-          (stops carries_allowed carries i none c.loop-i-test.true (not_opened (get_or carries i none) c.in_default-account_of.ensures.value) ∙ c.loop-i.invariant.2);
-    }
+    let lacks : c.new.result ≡ None = grind arith in
+    let failed : None ≡ opened_if x.older x.newer = search rules in
+    let stop = stopped_at carries size i none c.loop-i.invariant.allowed c.loop-i-test.true (not_opened x failed) in
+    record { value = grind (arith, stop) }
 
 pub loop-i-preserved : goal.loop-i-preserved
 loop-i-preserved c =
     let carries = c.args.carries.now in
     let i = c.loop-i.i in
-    let one = opened_is (get_or carries i none) (account_told c.in-Some-account_of.account) c.in-Some-account_of.ensures.value in (
-      length-set c.loop-i.accounts i c.in-Some-account_of.account ∙ c.loop-i.invariant.0,
-      image_more opened_account account_told carries c.loop-i.accounts i c.in-Some-account_of.account none c.loop-i-test.true
-          (omega (arith, c.loop-i.invariant.0, c.loop-i-test.true)) c.loop-i.invariant.1 one.is,
-      goes_on carries_allowed carries i none c.loop-i-test.true one.allowed ∙ c.loop-i.invariant.2,
-    )
-
-pub loop-i-init : goal.loop-i-init
-loop-i-init c =
-    let carries = c.args.carries.now in
-    let one = opened_is (get_or carries 0 none) (account_told c.in-Some.first) c.in-Some.ensures.value in (
-      refl,
-      ap (λ t. t ∷ []) one.is ∙ sym (ap (map opened_account) (take_more carries 0 none (omega arith))),
-      goes_on carries_allowed carries 0 none (omega arith) one.allowed,
-    )
+    let made : c.new.result ≡ Some c.in_ok-account.account = grind arith in
+    let is : Some c.in_ok-account.account ≡ opened_if (get_or carries i none).older (get_or carries i none).newer = search rules in
+    let one = opened_is (get_or carries i none) c.in_ok-account.account is in
+    record {
+      opened = c.push.ensures.items
+          ∙ (λ j. c.loop-i.invariant.opened j ++ one.is j ∷ [])
+          ∙ sym (map_more opened_account carries i none c.loop-i-test.true);
+      allowed = AllWithin-more (λ x. carries_outside x ≡ false) carries 0 i c.loop-i.invariant.allowed
+          (λ d. ap carries_outside (get_or_default carries i d none c.loop-i-test.true) ∙ one.allowed);
+    }
 
 pub returns : goal.returns
 returns c =
     let carries = c.args.carries.now in
     let i = c.loop-i.i in
     let size : (eqb (length carries) 0 || ltb 16 (length carries)) ≡ false = grind (arith, nat_tests) in
-    let end : i ≡ length carries = omega (arith, c.loop-i-test.false, c.loop-i.auto.i-end) in
-    let all : map account_told (take (length carries) c.loop-i.accounts) ≡ map opened_account carries =
-    ap (λ (n : ℕ). map account_told (take n c.loop-i.accounts)) (sym end) ∙ c.loop-i.invariant.1 ∙ ap (map opened_account) (take_all i carries (omega (arith, end))) in
+    let end : length carries ≡ i = omega (arith, c.loop-i-test.false, c.loop-i.auto.i-end) in
     record {
-      value = all_opened carries size (map account_told (take (length carries) c.loop-i.accounts)) all
-          (ends carries_allowed carries i (omega (arith, end)) ∙ c.loop-i.invariant.2);
+      value = all_opened carries size i none c.loop-i.invariant.allowed end c.loop-i.accounts.items
+          (c.loop-i.invariant.opened ∙ ap (map opened_account) (take_all i carries (omega (arith, end))));
     }

@@ -1,38 +1,42 @@
-use Rattle.std.proofs.Common.{true, false, ◌++◌, length, drop, sym, ◌∙◌, subst, le-ltb, lt-ltb}
-use Rattle.rates.specs.Fractions.{instigator_told, InstigatorTold}
-use Rattle.statement.specs.Statement.{entries_of, rates_of, lines_from}
+use Rattle.std.proofs.Common.{cond, ◌++◌, length, drop, sym, ap, arith, lt-ltb}
+use Rattle.shares.specs.Month.{pool_of}
+use Rattle.rates.specs.Rates.{instigator_of}
+use Rattle.statement.specs.Statement.{figures_of, rates_of, statement_of}
 use Rattle.statement.proofs.Laws.{fair_lines, calm_lines}
-use Rattle.statement.proofs.Sheets.{statement_long, answered, left_on_it}
+use Rattle.statement.proofs.Lines.{lines_long}
 use Rattle.statement.proofs.month.Month.draw.Goals as goal
 
-pub returns-then-sheet-self : goal.returns-then-sheet-self
-returns-then-sheet-self c =
-    let month = c.args.self.now in
+pub returns-then-sheet-len-clause-after : goal.returns-then-sheet-len-clause-after
+returns-then-sheet-len-clause-after c =
+    let entries = c.args.self.now in
+    let lines = statement_of c.args.percent entries in
     let sheet = c.args.sheet.now in
-    let entries = entries_of month in
-    let short = lt-ltb (length sheet) month.count c.if-sheet-self.true in
-    record {
-      value = answered month c.args.percent sheet true short;
-      after = left_on_it month c.args.percent sheet true short;
-      fair = fair_lines (instigator_told (rates_of entries)) c.args.percent entries c.pool-pool.ensures.fair;
-      calm = calm_lines (instigator_told (rates_of entries)) c.args.percent entries c.pool-pool.ensures.calm;
-      who = subst (InstigatorTold (rates_of entries)) c.instigator-instigator.ensures.value c.instigator-instigator.ensures.who;
-    }
+    let long = lines_long (pool_of (figures_of entries)) (instigator_of (rates_of entries)) c.args.percent 0 entries in
+    ap (λ b. cond b sheet (lines ++ drop (length lines) sheet))
+    (sym (lt-ltb (length sheet) (length lines) (omega (arith, long, c.if-sheet-len.true, c.len.ensures.value))))
 
-pub returns : goal.returns
-returns c =
-    let month = c.args.self.now in
-    let sheet = c.args.sheet.now in
-    let percent = c.args.percent in
-    let entries = entries_of month in
-    let fits = le-ltb (length sheet) month.count c.if-sheet-self.false in
-    let count = sym (statement_long month percent sheet) in
-    record {
-      value = answered month percent sheet false fits;
-      after = c.write.ensures.after
-          ∙ (λ j. lines_from (c.pool-pool.ensures.value j) (c.instigator-instigator.ensures.value j) percent 0 entries ++ drop (count j) sheet)
-          ∙ left_on_it month percent sheet false fits;
-      fair = fair_lines (instigator_told (rates_of entries)) percent entries c.pool-pool.ensures.fair;
-      calm = calm_lines (instigator_told (rates_of entries)) percent entries c.pool-pool.ensures.calm;
-      who = subst (InstigatorTold (rates_of entries)) c.instigator-instigator.ensures.value c.instigator-instigator.ensures.who;
-    }
+pub returns-then-sheet-len-clause-fair : goal.returns-then-sheet-len-clause-fair
+returns-then-sheet-len-clause-fair c =
+    let entries = c.args.self.now in
+    fair_lines (instigator_of (rates_of entries)) c.args.percent entries c.statement-statement.ensures.fair
+
+pub returns-then-sheet-len-clause-calm : goal.returns-then-sheet-len-clause-calm
+returns-then-sheet-len-clause-calm c =
+    let entries = c.args.self.now in
+    calm_lines (instigator_of (rates_of entries)) c.args.percent entries c.statement-statement.ensures.calm
+
+pub write-requires : goal.write-requires
+write-requires c =
+    let entries = c.args.self.now in
+    let long = lines_long (pool_of (figures_of entries)) (instigator_of (rates_of entries)) c.args.percent 0 entries in
+    record { room = omega (arith, long, ap length c.statement-statement.ensures.value, c.if-sheet-len.false, c.len.ensures.value) }
+
+pub returns-clause-fair : goal.returns-clause-fair
+returns-clause-fair c =
+    let entries = c.args.self.now in
+    fair_lines (instigator_of (rates_of entries)) c.args.percent entries c.statement-statement.ensures.fair
+
+pub returns-clause-calm : goal.returns-clause-calm
+returns-clause-calm c =
+    let entries = c.args.self.now in
+    calm_lines (instigator_of (rates_of entries)) c.args.percent entries c.statement-statement.ensures.calm

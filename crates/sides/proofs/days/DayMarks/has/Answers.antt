@@ -1,6 +1,0 @@
-use Rattle.std.proofs.Common.{rules}
-use Rattle.std.proofs.lemmas.List.{get_or_past}
-use Rattle.sides.proofs.days.DayMarks.has.Goals as goal
-
-pub returns-else-day-lt-LONGEST_MONTH : goal.returns-else-day-lt-LONGEST_MONTH
-returns-else-day-lt-LONGEST_MONTH c = search (rules, get_or_past)

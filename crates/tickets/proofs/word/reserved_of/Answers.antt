@@ -1,6 +1,0 @@
-use Rattle.std.proofs.Common.{◌/◌, ◌^◌}
-use Rattle.std.proofs.lemmas.Nat.{and_mask}
-use Rattle.tickets.proofs.word.reserved_of.Goals as goal
-
-pub returns : goal.returns
-returns c = record { value = and_mask (c.args.word / 2 ^ 16) 8 }
