@@ -35,7 +35,7 @@ impl Model for Account {
     ghost inverse = { untold };
 }
 
-// An account that nothing has reached.
+// An account that nothing has reached. Written out, so that its contract can name the account and not each field.
 impl Default for Account {
     ghost use Rattle.std.specs.Prelude.{◌≡◌};
     ghost use Rattle.accounts.specs.Accounts.{blank};

@@ -11,7 +11,8 @@ use tickets::word::field_of;
 // Hours of a day.
 pub const DAY_HOURS: usize = 24;
 
-// The heat of metered gas, in 10 kJ per m³, as tickets have it: 5,000 at most.
+// The heat of metered gas, in 10 kJ per m³, as tickets have it: 5,000 at most. Another limit on another number than those
+// of a posting, so that one type would need both as parameters.
 #[derive(Clone, Copy)]
 pub struct TicketHeat {
     pub units: u16,
@@ -29,7 +30,8 @@ impl Model for TicketHeat {
     ghost inverse = { λ n. record { units = n } };
 }
 
-// The words of a whole day's hours, each of the volume kind and within an hour's limit.
+// The words of a whole day's hours, each of the volume kind and within an hour's limit. What they come to is promised of
+// any list of words too, by `day_heat` and `peak_hour`.
 #[derive(Drop)]
 pub struct Hours<'a> {
     pub words: &'a [u32],

@@ -8,7 +8,7 @@ use rolls::roll::Roll;
 use statement::line::{Line, NO_LINE};
 
 // The accounts once each has its line issued; the lowest shipper whose settled volume or account would pass its limit is
-// told.
+// told. Lines are read by place, since the rule speaks of lists of any length, and `zip` would end with the shorter.
 pub fn issued_roll(roll: &Roll, lines: &[Line]) -> Result<Roll, Refusal>
     ensures value { result ≡ issued_roll lines.now roll.now }
 {

@@ -1,5 +1,5 @@
 -- A run of bookings: its loop, and that its volumes telescope to the whole heat divided once.
-use Rattle.std.proofs.Common.{◌≡◌, ℕ, ◌+◌, ◌<◌, ◌≤◌, List, [], ◌∷◌, length, get_or, drop, ℤ, pos, ◌+ℤ◌, ◌*ℤ◌, nat_abs, sym, refl, ap, ◌∙◌, subst, arith}
+use Rattle.std.proofs.Common.{◌≡◌, ℕ, ◌+◌, ◌<◌, ◌≤◌, List, [], ◌∷◌, length, get_or, drop, ℤ, pos, ◌+ℤ◌, ◌*ℤ◌, nat_abs, sym, ap, ◌∙◌, subst, arith}
 use borrow.Author.Differences.{ints}
 use Rattle.std.proofs.lemmas.List.{at_drop_more, at_drop_all}
 use Rattle.heat.specs.Split.{split_of, run_of, whole_run, total}
@@ -10,9 +10,6 @@ use Rattle.heat.proofs.Floor.{over_sum, floors, whole}
 pub record Kept (s : ℕ) (heats : List ℤ) (start i : ℕ) (booked : ℤ) (left : ℕ) : Type 0 where
   pub volume : booked +ℤ (run_of s (drop i heats) left).booked ≡ (run_of s heats start).booked
   pub rest : (run_of s (drop i heats) left).remainder ≡ (run_of s heats start).remainder
-
-pub kept_none : (s : ℕ) (heats : List ℤ) (start : ℕ) → Kept s heats start 0 (pos 0) start
-kept_none s heats start = record { volume = omega (arith, ints); rest = refl }
 
 module _ (s : ℕ) (heats : List ℤ) (start i : ℕ) (booked : ℤ) (left : ℕ) (kept : Kept s heats start i booked left) where
   one_more : i < length heats →

@@ -68,7 +68,7 @@ impl PartialOrd for Rate {
     ghost laws = { partial_order_from_agreeing_total rate_order rates_total (λ _ _. refl) same_tied };
 
     fn partial_cmp(&self, other: &Rate) -> Option<Ordering> {
-        Some(over(*self, *other).cmp(&over(*other, *self)))
+        Some(self.cmp(other))
     }
 }
 

@@ -50,18 +50,12 @@ impl PriceKind {
     }
 }
 
-// So many hundredths of a figure, cut toward zero. The sign is set as for a carry, at 128 bits: one function for both
-// widths would need a trait with their laws.
+// So many hundredths of a figure, cut toward zero.
 fn hundredths(figure: i64, factor: u32) -> i128
     ensures value { result ≡ hundredths figure factor }
     ensures size { unsigned_abs result ≡ unsigned_abs figure * factor / 100 }
 {
-    let size = u128::from(figure.unsigned_abs()) * u128::from(factor) / 100;
-    if figure < 0 {
-        -(size as i128)
-    } else {
-        size as i128
-    }
+    i128::from(figure) * i128::from(factor) / 100
 }
 
 // The yen of a settled volume in m³, at a price in sen per m³; of 128 bits, which no volume and no price passes.

@@ -1,9 +1,6 @@
 -- A part of a size is no more than the size.
-use Rattle.std.proofs.Common.{ℕ, ◌+◌, ◌*◌, ◌/◌, ◌^◌, ◌<◌, ◌≤◌, add-mul, mul-le-mul_left, arith}
-use Rattle.std.proofs.lemmas.Nat.{mul-le, div_below}
-
-pub part_fits : (size carried : ℕ) → size ≤ 2 ^ 33 → carried ≤ 2 ^ 92 → size * carried ≤ 2 ^ 125
-part_fits size carried s c = omega (arith, mul-le size carried (2 ^ 33) (2 ^ 92) s c)
+use Rattle.std.proofs.Common.{ℕ, ◌+◌, ◌*◌, ◌/◌, ◌<◌, ◌≤◌, add-mul, mul-le-mul_left, arith}
+use Rattle.std.proofs.lemmas.Nat.{div_below}
 
 pub part_le : (size carried moved : ℕ) → carried ≤ moved → 0 < moved → size * carried / moved ≤ size
 part_le size carried moved h some =

@@ -60,7 +60,7 @@ impl Month {
         }
     }
 
-    // How many shippers there are.
+    // How many shippers there are; sixteen at most, which callers do not see of the list itself.
     pub fn len(&self) -> usize
         ensures value { result ≡ length self.now }
         ensures few { result ≤ 16 }

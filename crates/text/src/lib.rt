@@ -99,8 +99,8 @@ fn put_row(figures: &[Figure], buffer: &mut [u8], at: usize) -> usize
     place
 }
 
-// Writes the row from the place `at` on, and answers the place after it. A buffer that is too short is refused with its
-// whole length as the place.
+// Writes the row from the place `at` on, and answers the place after it: a lent buffer and a place in it are what the
+// rules say a text is written to. A buffer that is too short is refused with its whole length as the place.
 pub fn write_row(figures: &[Figure], buffer: &mut [u8], at: usize) -> Result<usize, Refusal>
     ensures value { result ≡ row_answer figures.now (length buffer.old) at }
     ensures after { buffer.new ≡ row_after figures.now buffer.old at }

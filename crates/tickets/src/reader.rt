@@ -78,7 +78,8 @@ fn first_outside(kind: TicketKind, words: &[u32]) -> Option<usize>
         .position(|(i, word)| !is_allowed(kind, i, *word))
 }
 
-// A day's metered gas, from 26 words.
+// A day's metered gas, from 26 words. Here and in the three functions below: words that have passed both tests are still
+// words, and a type for them would serve `read` alone.
 fn metered(side: Side, words: &[u32]) -> Ticket<'_>
     requires whole { length words.now ≡ 26 }
     requires shapes { first_not (shaped Receipts) words.now ≡ None }

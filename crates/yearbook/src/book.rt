@@ -131,6 +131,7 @@ impl<W: Write + Drop> YearBook<W> {
             Unreadable::Draw,
         )? as u8;
         let month = mem::replace(&mut self.month, Month::new());
+        // a lent sheet, as the rules have it
         let mut sheet = [NO_LINE; SHIPPERS];
         month.draw(percent, &mut sheet)?;
         for line in &sheet[..month.len()] {

@@ -28,7 +28,8 @@ impl<'a> Iterator for Fields<'a> {
     }
 }
 
-// The next field as a figure in decimal; none where it is no figure, or no field is left.
+// The next field as a figure in decimal; none where it is no figure, or no field is left. One method for each kind of
+// figure, as the crate `fields` has one function for each.
 impl<'a> Fields<'a> {
     pub(crate) fn number32(&mut self) -> Option<u32> {
         number32(self.next()?, Base::Decimal)
