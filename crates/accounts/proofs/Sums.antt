@@ -1,7 +1,7 @@
 -- Sums within their limits, and what a correction or a line makes of an account then.
 use Rattle.std.proofs.Common.{◌≡◌, ℕ, ◌^◌, Bool, true, false, cond, ◌||◌, ℤ, ◌+ℤ◌, Some, None, sym, refl, ap, ◌∙◌, arith}
 use Rattle.accounts.specs.Told.{AccountTold}
-use Rattle.accounts.specs.Accounts.{passes, sum_if, over_by, with_sums, settled_if, correction_of, with_correction, corrected, after_correction, with_line, issued_if}
+use Rattle.accounts.specs.Accounts.{passes, sum_if, over_by, with_sums, settling, settled_if, correction_of, with_correction, corrected, after_correction, with_line, issued_if}
 use Rattle.accounts.specs.declared.settled.Correction.{Correction}
 use Rattle.sides.specs.declared.Side.{Side}
 use Rattle.statement.specs.declared.line.Line.{Line}
@@ -21,44 +21,30 @@ sum_fits most a b sum e =
 pub either_false : (p q : Bool) → p ≡ false → q ≡ false → (p || q) ≡ false
 either_false p q e f = (λ j. e j || f j)
 
--- an account whose sums fit
-abbrev pub with_both : ℤ → ℤ → AccountTold → AccountTold
-with_both settled yen a = record {
-  remainders = a.remainders;
-  volumes = a.volumes;
-  metered = a.metered;
-  plan = a.plan;
-  planned = a.planned;
-  older = a.older;
-  newer = a.newer;
-  settled = settled;
-  yen = yen;
-}
-
 pub settled_is : (volume yen : ℤ) (a : AccountTold) (s y : ℤ) → Some s ≡ sum_if (10 ^ 12) a.settled volume →
-    Some y ≡ sum_if (10 ^ 15) a.yen yen → Some (with_both s y a) ≡ settled_if volume yen a
+    Some y ≡ sum_if (10 ^ 15) a.yen yen → Some (with_sums s y a) ≡ settled_if volume yen a
 settled_is volume yen a s y se ye =
     let sf = sum_fits (10 ^ 12) a.settled volume s se in
     let yf = sum_fits (10 ^ 15) a.yen yen y ye in
     let fits = either_false (passes (10 ^ 12) (a.settled +ℤ volume)) (passes (10 ^ 15) (a.yen +ℤ yen)) sf.fits yf.fits in
-    (λ j. Some (with_both (sf.is j) (yf.is j) a)) ∙ ap (λ b. cond b None (Some (with_sums volume yen a))) (sym fits)
+    (λ j. Some (with_sums (sf.is j) (yf.is j) a)) ∙ ap (λ b. cond b None (Some (settling volume yen a))) (sym fits)
 
 -- an account that took up a volume and yen, or did not
 
 pub record Settled (volume yen : ℤ) (a b : AccountTold) : Type 0 where
   pub fits : over_by volume yen a ≡ false
-  pub is : b ≡ with_sums volume yen a
+  pub is : b ≡ settling volume yen a
 
 pub settled_some : (volume yen : ℤ) (a b : AccountTold) → Some b ≡ settled_if volume yen a → Settled volume yen a b
 settled_some volume yen a b e =
-    let found = chosen (over_by volume yen a) (with_sums volume yen a) b e in record { fits = found.0; is = found.1 }
+    let found = chosen (over_by volume yen a) (settling volume yen a) b e in record { fits = found.0; is = found.1 }
 
 over_of : (over : Bool) (z : AccountTold) → None ≡ cond over None (Some z) → over ≡ true
 over_of true z e = refl
 over_of false z e = absurd (let no : ◌≡◌ {A = ℕ} 0 1 = cc in omega (arith, no))
 
 pub settled_none : (volume yen : ℤ) (a : AccountTold) → None ≡ settled_if volume yen a → over_by volume yen a ≡ true
-settled_none volume yen a e = over_of (over_by volume yen a) (with_sums volume yen a) e
+settled_none volume yen a e = over_of (over_by volume yen a) (settling volume yen a) e
 
 module _ (standard : ℕ) (side : Side) (heat : ℤ) (price : ℕ) (a : AccountTold) where
   abbrev due : Correction

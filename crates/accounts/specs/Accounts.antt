@@ -139,9 +139,9 @@ correction_of standard side heat price a = correction_at side (split standard si
 abbrev pub over_by : ℤ → ℤ → AccountTold → Bool
 over_by settled yen a = passes (10 ^ 12) (a.settled +ℤ settled) || passes (10 ^ 15) (a.yen +ℤ yen)
 
--- an account that has taken up a volume and yen
+-- an account with these sums
 abbrev pub with_sums : ℤ → ℤ → AccountTold → AccountTold
-with_sums volume yen a = record {
+with_sums settled yen a = record {
   remainders = a.remainders;
   volumes = a.volumes;
   metered = a.metered;
@@ -149,12 +149,16 @@ with_sums volume yen a = record {
   planned = a.planned;
   older = a.older;
   newer = a.newer;
-  settled = a.settled +ℤ volume;
-  yen = a.yen +ℤ yen;
+  settled = settled;
+  yen = yen;
 }
 
+-- an account that has taken up a volume and yen
+abbrev pub settling : ℤ → ℤ → AccountTold → AccountTold
+settling volume yen a = with_sums (a.settled +ℤ volume) (a.yen +ℤ yen) a
+
 abbrev pub settled_if : ℤ → ℤ → AccountTold → Option AccountTold
-settled_if volume yen a = cond (over_by volume yen a) None (Some (with_sums volume yen a))
+settled_if volume yen a = cond (over_by volume yen a) None (Some (settling volume yen a))
 
 abbrev pub with_correction : ℕ → Side → ℤ → Correction → AccountTold → AccountTold
 with_correction standard side heat correction a = record {

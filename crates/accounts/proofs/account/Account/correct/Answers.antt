@@ -1,7 +1,7 @@
 use Rattle.std.proofs.Common.{◌≡◌, false, sym, ◌∙◌, w64, to_z, of_z, rules, arith}
 use Rattle.sides.specs.Sides.{with_side}
 use Rattle.accounts.specs.Fields.{told}
-use Rattle.accounts.specs.Accounts.{over_by, correction_of, split, with_sums}
+use Rattle.accounts.specs.Accounts.{over_by, correction_of, split, settling}
 use Rattle.accounts.proofs.Sums.{settled_some, settled_none, corrected_is, after_is, none_corrected, after_none}
 use Rattle.accounts.proofs.account.Account.correct.Goals as goal
 
@@ -49,8 +49,8 @@ returns c =
     let yen : to_z w64 (of_z w64 due.yen) ≡ due.yen = search rules in
     let taken = settled_some (to_z w64 (of_z w64 due.volume)) (to_z w64 (of_z w64 due.yen)) a c.in_ok-self-inside.field-0 c.in_ok-self-inside.ensures.value in
     let fits : over_by due.volume due.yen a ≡ false = sym (λ j. over_by (volume j) (yen j) a) ∙ taken.fits in
-    let same : told c.self-2.inside ≡ with_sums due.volume due.yen a =
-    c.self-2.view_is ∙ taken.is ∙ (λ j. with_sums (volume j) (yen j) a) in
+    let same : told c.self-2.inside ≡ settling due.volume due.yen a =
+    c.self-2.view_is ∙ taken.is ∙ (λ j. settling (volume j) (yen j) a) in
     let left : c.put.new.self ≡ with_side side a.remainders (split standard side heat a).remainder =
     c.put.ensures.after ∙ (λ j. with_side side (same j).remainders (split_is j).remainder) in
     record {
