@@ -1,3 +1,3 @@
 mod Products
-mod Peaks
+pub mod Peaks
 mod Limits

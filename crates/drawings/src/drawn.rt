@@ -34,7 +34,7 @@ pub fn draw<B: Asking>(
     ensures value { result ≡ drawn_roll (B.held board.now) place days percent (length sheet.old) roll.now }
     ensures after { sheet.new ≡ drawn_sheet (B.held board.now) place days percent sheet.old roll.now }
 {
-    if sheet.len() < roll.accounts.len() {
+    if sheet.len() < roll.accounts().len() {
         return Err(Layer::Sheet.refuses(Ground::SheetShort, sheet.len() as u64));
     }
     if let Some(shipper) = roll.lacking(days) {

@@ -2,7 +2,8 @@
 ghost use Rattle.std.specs.Prelude.{◌≡◌};
 ghost use Rattle.drawings.specs.Drawing.{issued_roll};
 
-use arrayvec::ArrayVec;
+use accounts::account::Account;
+use prices::slot::SHIPPERS;
 use refusals::{Ground, Layer, Refusal};
 use rolls::roll::Roll;
 use statement::line::{Line, NO_LINE};
@@ -12,13 +13,16 @@ use statement::line::{Line, NO_LINE};
 pub fn issued_roll(roll: &Roll, lines: &[Line]) -> Result<Roll, Refusal>
     ensures value { result ≡ issued_roll lines.now roll.now }
 {
-    let mut accounts = ArrayVec::new();
-    for (i, account) in roll.accounts.iter().enumerate() {
+    let mut accounts = [Account::default(); SHIPPERS];
+    for (i, account) in roll.accounts().iter().enumerate() {
         let line = lines.get(i).copied().unwrap_or(NO_LINE);
         let next = account
             .issued(line)
             .ok_or(Layer::Book.refuses(Ground::AccountLimit, i as u64))?;
-        accounts.push(next);
+        accounts[i] = next;
     }
-    Ok(Roll { accounts })
+    Ok(Roll {
+        count: roll.count,
+        accounts,
+    })
 }

@@ -13,7 +13,7 @@ pub fn priced_month<B: Asking>(roll: &Roll, board: &B, place: u32) -> Result<Mon
     ensures value { result ≡ priced_month (B.held board.now) place roll.now }
 {
     let mut month = Month::new();
-    for (i, account) in roll.accounts.iter().enumerate() {
+    for (i, account) in roll.accounts().iter().enumerate() {
         let slot = Slot {
             shipper: i as u32,
             place,

@@ -25,12 +25,13 @@ pub fn enter_day(
     ensures value { result ≡ day_entered standard (month_number current) side shipper day.0 heat roll.old }
     ensures after { roll.new ≡ after_day_entered standard (month_number current) side shipper day.0 heat roll.old }
 {
-    // as in the two calls below: a function that lends the account, or refuses, would need four clauses for two lines
     let unknown = Layer::Book.refuses(Ground::UnknownShipper, u64::from(shipper));
-    let account = roll.get_mut(usize::from(shipper)).ok_or(unknown)?;
+    let mut account = roll.get(usize::from(shipper)).ok_or(unknown)?;
     let place = place_of(current, day)?;
     let repeated = Layer::Book.refuses(Ground::TicketRepeated, u64::from(day.0));
-    account.meter(standard, side, place, heat).ok_or(repeated)
+    let booked = account.meter(standard, side, place, heat).ok_or(repeated)?;
+    roll.put(usize::from(shipper), account);
+    Ok(booked)
 }
 
 // Enters a day's plan, and answers its volume in standard m³. A refusal changes nothing.
@@ -45,10 +46,12 @@ pub fn enter_plan(
     ensures after { roll.new ≡ after_plan_entered (month_number current) shipper day.0 plan roll.old }
 {
     let unknown = Layer::Book.refuses(Ground::UnknownShipper, u64::from(shipper));
-    let account = roll.get_mut(usize::from(shipper)).ok_or(unknown)?;
+    let mut account = roll.get(usize::from(shipper)).ok_or(unknown)?;
     let place = place_of(current, day)?;
     let repeated = Layer::Book.refuses(Ground::TicketRepeated, u64::from(day.0));
-    account.plan(place, plan).ok_or(repeated)
+    let volume = account.plan(place, plan).ok_or(repeated)?;
+    roll.put(usize::from(shipper), account);
+    Ok(volume)
 }
 
 // Enters a correction at a price in sen per m³, and answers its volume and yen. A refusal changes nothing.
@@ -64,7 +67,9 @@ pub fn enter_correction(
     ensures after { roll.new ≡ after_correction_entered standard side shipper heat price roll.old }
 {
     let unknown = Layer::Book.refuses(Ground::UnknownShipper, u64::from(shipper));
-    let account = roll.get_mut(usize::from(shipper)).ok_or(unknown)?;
+    let mut account = roll.get(usize::from(shipper)).ok_or(unknown)?;
     let over = Layer::Book.refuses(Ground::AccountLimit, u64::from(shipper));
-    account.correct(standard, side, heat, price).ok_or(over)
+    let correction = account.correct(standard, side, heat, price).ok_or(over)?;
+    roll.put(usize::from(shipper), account);
+    Ok(correction)
 }

@@ -14,16 +14,16 @@ rank_scaled a b k h = ⊎_elim
     (⊎_elim (λ (l : a < b). let m = mul-lt-mul_of_pos_right l h in grind (arith, nat_tests)) (λ (l : b < a). let m = mul-lt-mul_of_pos_right l h in grind (arith, nat_tests)))
     (cases_order a b)
 
-is_less : (a b : ℕ) → nat_cmp a b ≡ Less → a < b
+pub is_less : (a b : ℕ) → nat_cmp a b ≡ Less → a < b
 is_less a b e = grind (arith, nat_tests)
 
-less_is : (a b : ℕ) → a < b → nat_cmp a b ≡ Less
+pub less_is : (a b : ℕ) → a < b → nat_cmp a b ≡ Less
 less_is a b h = grind (arith, nat_tests)
 
-is_equal : (a b : ℕ) → nat_cmp a b ≡ Equal → a ≡ b
+pub is_equal : (a b : ℕ) → nat_cmp a b ≡ Equal → a ≡ b
 is_equal a b e = grind (arith, nat_tests)
 
-chain : (x y z : Rate) → cross x y < cross y x → cross y z < cross z y → cross x z < cross z x
+pub chain : (x y z : Rate) → cross x y < cross y x → cross y z < cross z y → cross x z < cross z x
 chain x y z a b = lt_of_mul-lt-mul_right y.plan (omega (
   arith,
   mul_right_comm x.gap z.plan y.plan,
@@ -33,7 +33,7 @@ chain x y z a b = lt_of_mul-lt-mul_right y.plan (omega (
   mul_right_comm z.gap y.plan x.plan,
 ))
 
-same_by : (x y z : Rate) → cross x y ≡ cross y x → rate_order x z ≡ rate_order y z
+pub same_by : (x y z : Rate) → cross x y ≡ cross y x → rate_order x z ≡ rate_order y z
 same_by x y z e =
     let left : cross x z * y.plan ≡ cross y z * x.plan =
     mul_right_comm x.gap z.plan y.plan ∙ ap (λ n. n * z.plan) e ∙ mul_right_comm y.gap x.plan z.plan in

@@ -73,16 +73,22 @@ impl fmt::Display for Layer {
     ghost output = { λ layer. Some (layer_name layer) };
 
     fn fmt<W: fmt::Write>(&self, f: &mut fmt::Formatter<W>) -> fmt::Result {
-        f.write_str(match self {
-            Layer::Words => "words",
-            Layer::Board => "board",
-            Layer::Sheet => "sheet",
-            Layer::Book => "book",
-        })
+        f.write_str(self.name())
     }
 }
 
 impl Layer {
+    pub fn name(self) -> &'static str
+        ensures value { result.now ≡ layer_name self }
+    {
+        match self {
+            Layer::Words => "words",
+            Layer::Board => "board",
+            Layer::Sheet => "sheet",
+            Layer::Book => "book",
+        }
+    }
+
     // The refusal by this layer of what its ground is due for, at a place there.
     pub fn refuses(self, ground: Ground, place: u64) -> Refusal
         ensures value { result ≡ refusal_at ground self place }

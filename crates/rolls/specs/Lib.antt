@@ -1,3 +1,3 @@
 pub mod Terms
+pub mod Fields
 pub mod Rolls
-pub mod Lending

@@ -5,7 +5,6 @@ ghost use Rattle.rolls.specs.Rolls.{terms_of, opened_roll};
 use super::roll::Roll;
 use super::terms::{LAST_FIRST_MONTH, MOST_TAX, Terms};
 use accounts::account::Account;
-use arrayvec::ArrayVec;
 use heat::standard::StandardHeat;
 use prices::slot::SHIPPERS;
 use refusals::{Ground, Layer, Refusal};
@@ -45,12 +44,15 @@ impl Roll {
         if carries.is_empty() || carries.len() > SHIPPERS {
             return Err(Layer::Book.refuses(Ground::FigureLimits, 3));
         }
-        let mut accounts = ArrayVec::new();
+        let mut accounts = [Account::default(); SHIPPERS];
         for (i, carry) in carries.iter().enumerate() {
             let outside = Layer::Book.refuses(Ground::FigureLimits, 4 + i as u64);
             let account = Account::new(carry.older, carry.newer).ok_or(outside)?;
-            accounts.push(account);
+            accounts[i] = account;
         }
-        Ok(Roll { accounts })
+        Ok(Roll {
+            count: carries.len(),
+            accounts,
+        })
     }
 }

@@ -116,7 +116,7 @@ impl Month {
         ensures calm { CalmExactly (figures_of self.now) }
         ensures who { Instigator (rates_of self.now) (instigator_of (rates_of self.now)) }
     {
-        let entries = self.entries.as_slice();
+        let entries = &self.entries[..self.count];
         let mut figures = ArrayVec::<Figures, SHIPPERS>::new();
         let mut rates = ArrayVec::<Rate, SHIPPERS>::new();
         for entry in entries {

@@ -3,7 +3,7 @@ ghost use Rattle.std.specs.Prelude.{◌≡◌, ◌<◌, ◌≤◌, ◌↔◌, []
 ghost use Rattle.arrayvec.specs.CapacityError.{error_element};
 ghost use Rattle.statement.specs.Statement.{no_shipper, with_entry};
 
-use arrayvec::{ArrayVec, CapacityError};
+use arrayvec::CapacityError;
 use prices::price::Prices;
 use prices::slot::SHIPPERS;
 use shares::figures::Figures;
@@ -33,21 +33,29 @@ impl Default for Entry {
     }
 }
 
-// A month is seen as the list of its shippers.
-#[derive(Clone, Drop)]
+// A month is seen as the list of its shippers. An array with a count, since a short vector is never `Copy`.
+#[derive(Clone, Copy)]
 pub struct Month {
-    pub entries: ArrayVec<Entry, SHIPPERS>,
+    // how many shippers there are; the places after them are those of no shipper
+    pub count: usize,
+    pub entries: [Entry; SHIPPERS],
 }
 
 impl Model for Month {
-    ghost use Rattle.std.specs.Prelude.{◌≤◌, List, length};
+    ghost use Rattle.std.specs.Prelude.{List};
     ghost use Rattle.statement.specs.declared.month.Entry.{Entry};
 
     ghost Value = { List Entry };
 
-    ghost view = { λ month. month.entries.items };
+    ghost use Rattle.statement.specs.Places.{shippers, Placed, places, places_back};
 
-    ghost invariant = { λ month. length month.entries.items ≤ 16 };
+    ghost view = { shippers };
+
+    ghost invariant = { Placed };
+
+    ghost inverse = { places };
+
+    ghost inverse_ok = { places_back };
 }
 
 impl Month {
@@ -56,7 +64,8 @@ impl Month {
         ensures entries { result ≡ [] }
     {
         Month {
-            entries: ArrayVec::new(),
+            count: 0,
+            entries: [Entry::default(); SHIPPERS],
         }
     }
 
@@ -65,7 +74,7 @@ impl Month {
         ensures value { result ≡ length self.now }
         ensures few { result ≤ 16 }
     {
-        self.entries.len()
+        self.count
     }
 
     // One shipper more; where there are sixteen it is handed back, and nothing changes.
@@ -74,6 +83,11 @@ impl Month {
         ensures entries { self.new ≡ with_entry self.old entry }
         ensures returned { IfErr result (λ e. error_element e ≡ entry) }
     {
-        self.entries.try_push(entry)
+        if self.count >= SHIPPERS {
+            return Err(CapacityError::new(entry));
+        }
+        self.entries[self.count] = entry;
+        self.count += 1;
+        Ok(())
     }
 }

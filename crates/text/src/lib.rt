@@ -3,7 +3,7 @@
 // The room is tested before the first byte is written, so a row that is refused changes nothing.
 #![tactic(auto)]
 
-ghost use Rattle.std.specs.Prelude.{◌≡◌, ◌+◌, ◌<◌, ◌≤◌, ◌++◌, length, drop, decimal};
+ghost use Rattle.std.specs.Prelude.{◌≡◌, ◌+◌, ◌<◌, ◌≤◌, ◌++◌, length, drop, decimal, nat_le};
 ghost use Rattle.std.specs.Fmt.{signed_decimal};
 ghost use Rattle.text.specs.Rows.{figure_text, ended, row_text, placed, row_answer, row_after};
 
@@ -44,6 +44,13 @@ fn row_length(figures: &[Figure]) -> usize
         .iter()
         .map(|figure| figure_length(*figure) + 1)
         .sum()
+}
+
+// Whether the row takes no more than `room` bytes. Each figure takes some, so that more figures than bytes are not counted.
+fn has_room(figures: &[Figure], room: usize) -> bool
+    ensures value { result ≡ nat_le (length (row_text figures.now)) room }
+{
+    figures.len() <= room && row_length(figures) <= room
 }
 
 // Writes the digits of a number at the front of `out`, and answers how many.
@@ -106,7 +113,7 @@ pub fn write_row(figures: &[Figure], buffer: &mut [u8], at: usize) -> Result<usi
     ensures after { buffer.new ≡ row_after figures.now buffer.old at }
 {
     let size = buffer.len();
-    if at <= size && row_length(figures) <= size - at {
+    if at <= size && has_room(figures, size - at) {
         Ok(put_row(figures, buffer, at))
     } else {
         Err(Layer::Sheet.refuses(Ground::SheetShort, size as u64))

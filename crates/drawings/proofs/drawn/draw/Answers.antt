@@ -19,7 +19,7 @@ returns-in_err-draw-clause-value g c =
     let sheet = c.args.sheet.now in
     let long = each_long (priced_at (g.B.Asking.held c.args.board.now) c.args.place) 0 c.args.roll.now month c.in_ok-month.ensures.value in
     let fits : ltb (length sheet) (length month) ≡ false =
-    le-ltb (length sheet) (length month) (omega (arith, long, c.if-sheet-len.false, c.len.ensures.value, ap length c.roll.view_is)) in
+    le-ltb (length sheet) (length month) (omega (arith, long, c.if-sheet-accounts.false, ap length c.accounts.ensures.value)) in
     let drawn : c.draw.result ≡ Ok tt =
     c.draw.ensures.value ∙ ap (λ b. ruling (cond b (Some (refusal_at SheetShort Sheet (length sheet))) None)) fits in
     let no : ◌≡◌ {A = ℕ} 0 1 = ap failed (sym drawn ∙ c.in_err-draw.was) in absurd (omega (arith, no))
