@@ -1,3 +1,4 @@
 pub mod Terms
 pub mod Fields
+pub mod Lending
 pub mod Rolls

@@ -3,6 +3,10 @@
 #![tactic(auto)]
 
 pub mod opening;
+mod places;
 pub mod roll;
 pub mod rows;
+pub mod spare;
 pub mod terms;
+#[cfg(test)]
+mod tests;

@@ -1,8 +1,12 @@
 // What a row of accounts tells, and one of its accounts.
 ghost use Rattle.std.specs.Prelude.{◌≡◌, ◌<◌, ◌≤◌, ◌↔◌, length, IsSome, IfSome, slice_index_or, slice_set};
+ghost use Rattle.std.specs.Borrow.{sem};
 ghost use Rattle.rolls.specs.Rolls.{lacking};
+ghost use Rattle.rolls.specs.Lending.{lends_account};
 
+use super::places::place_mut;
 use super::roll::Roll;
+use super::spare::Spare;
 use accounts::account::Account;
 
 impl Roll {
@@ -31,13 +35,26 @@ impl Roll {
         self.accounts().get(shipper).copied()
     }
 
-    // Puts another account in the place of a shipper's; a shipper that the row has not changes nothing. No account is lent
-    // to be changed: a loan from a `Copy` struct that is seen by its value gets no proof.
+    // Puts another account in the place of a shipper's; a shipper that the row has not changes nothing.
     pub fn put(&mut self, shipper: usize, account: Account)
         ensures after { self.new ≡ slice_set self.old shipper account }
     {
         if shipper < self.count {
             self.accounts[shipper] = account;
         }
+    }
+}
+
+impl<A: Spare> Roll<A> {
+    // A shipper's account, to be changed.
+    pub fn get_mut(&mut self, shipper: usize) -> Option<&mut A>
+        ensures* writes_back { sem 𝓛 (lends_account A.row self.entry shipper A.Spare result) }
+        ensures known { IsSome result ↔ (shipper < length self.old) }
+        ensures value { IfSome result (λ account. account.now ≡ slice_index_or self.old shipper account.now) }
+    {
+        if shipper >= self.count {
+            return None;
+        }
+        Some(place_mut(&mut self.accounts, shipper))
     }
 }

@@ -1,6 +1,6 @@
 use Rattle.std.proofs.Common.{◌≡◌, ◌+◌, ◌<◌, List, get_or, take, drop, Some, None, sym, ap, ◌∙◌, arith, rules}
 use Rattle.accounts.specs.Told.{AccountTold}
-use Rattle.accounts.specs.Accounts.{issued_if}
+use Rattle.accounts.specs.Accounts.{blank, issued_if}
 use Rattle.statement.specs.declared.line.Line.{Line}
 use Rattle.statement.specs.Statement.{no_line}
 use Rattle.rolls.proofs.Filled.{told_more, rest_more}
@@ -34,8 +34,8 @@ loop-i-preserved c =
     let rest = c.loop-i.invariant.rest in
     record {
       few = omega (arith, lt);
-      rest = rest_more i c.loop-i.accounts room rest lt next;
-      whole = ap (λ (done : List AccountTold). after done (each answer (i + 1) (drop (i + 1) items))) (told_more i c.loop-i.accounts room rest lt next)
+      rest = rest_more blank i c.loop-i.accounts room rest lt next;
+      whole = ap (λ (done : List AccountTold). after done (each answer (i + 1) (drop (i + 1) items))) (told_more blank i c.loop-i.accounts room rest lt next)
           ∙ goes_on answer items i (take i c.loop-i.accounts) x next (ap (limited i) is ∙ ap (answer i) c.account-item.is) c.loop-i-test.true
           ∙ c.loop-i.invariant.whole;
     }

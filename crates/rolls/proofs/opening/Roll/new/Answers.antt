@@ -2,13 +2,13 @@ use Rattle.std.proofs.Common.{◌≡◌, false, ◌<◌, ◌||◌, eqb, ltb, [],
 use Rattle.std.proofs.lemmas.List.{take_all, map_more, get_or_default, length-map}
 use Rattle.std.proofs.lemmas.List.Elements.{AllWithin-more}
 use Rattle.std.proofs.lemmas.Bool.Decides.{nat_tests}
-use Rattle.accounts.specs.Accounts.{opened_if}
+use Rattle.accounts.specs.Accounts.{blank, opened_if}
 use Rattle.rolls.specs.Fields.{filled}
 use Rattle.rolls.specs.Rolls.{carries_outside, opened_account}
 use Rattle.rolls.specs.declared.opening.Carries.{Carries}
 use Rattle.rolls.proofs.Filled.{filled_more, filled_told}
 use Rattle.rolls.proofs.Opened.{opened_is, not_opened, stopped_at, all_opened}
-use Rattle.rolls.proofs.roll.Roll.new.Goals as goal
+use Rattle.rolls.proofs.opening.Roll.new.Goals as goal
 
 abbrev none : Carries
 none = record { older = pos 0; newer = pos 0 }
@@ -38,7 +38,7 @@ loop-i-preserved c =
     record {
       opened = ap (λ row. set row i account) c.loop-i.invariant.opened
           ∙ ap (λ n. set (filled done) n account) (sym long)
-          ∙ filled_more done account few
+          ∙ filled_more blank done account few
           ∙ (λ j. filled (done ++ one.is j ∷ []))
           ∙ ap filled (sym (map_more opened_account carries i none c.loop-i-test.true));
       allowed = AllWithin-more (λ x. carries_outside x ≡ false) carries 0 i c.loop-i.invariant.allowed
@@ -57,6 +57,6 @@ returns c =
     record {
       value = all_opened carries size i none c.loop-i.invariant.allowed end (take (length carries) c.loop-i.accounts)
           (ap (take (length carries)) c.loop-i.invariant.opened
-          ∙ filled_told done (length carries) long
+          ∙ filled_told blank done (length carries) long
           ∙ ap (map opened_account) (take_all i carries (omega (arith, end))));
     }

@@ -2,7 +2,7 @@ use Rattle.std.proofs.Common.{◌≡◌, false, map, take}
 use Rattle.std.specs.List.{AllWithin}
 use Rattle.rolls.specs.Fields.{filled}
 use Rattle.rolls.specs.Rolls.{carries_outside, opened_account}
-use Rattle.rolls.proofs.roll.Roll.new.Given as goal
+use Rattle.rolls.proofs.opening.Roll.new.Given as goal
 
 -- the accounts so far are opened, and the carry-overs of none of them failed
 abbrev pub invariant-loop-i : goal.invariant-loop-i
