@@ -56,7 +56,7 @@ module _ {A : Type 0} (spare : A) where
           ∙ sym (set-append_left done (replicate (16 - length done) spare) i item (omega (arith, lt, told_long)))
           ∙ ap (λ row. set row i item) rest
 
-  -- ---- a row with another item in a told place
+  -- ---- a sound row with another item in a told place
   module _ (roll : Inside A) (sound : Sound spare roll) (i : ℕ) (item : A) (lt : i < roll.count) where
     pub told_again : take roll.count (set roll.accounts i item) ≡ set (told roll) i item
     told_again = told_set roll.count roll.accounts sound.few.1 sound.rest i item lt

@@ -4,7 +4,7 @@ use Rattle.accounts.specs.Told.{AccountTold}
 use Rattle.accounts.specs.Accounts.{blank}
 use Rattle.rolls.specs.declared.roll.Roll.TheInside.{Inside}
 
--- ---- a row of any items, of which one is spare
+-- ---- a row of any items, with a spare one for the places after them
 module _ {A : Type 0} where
   abbrev pub told : Inside A → List A
   told roll = take roll.count roll.accounts

@@ -1,4 +1,4 @@
--- What is left where an element is lent for writing, once the loan is over: what is left behind r stands in its place.
+-- What a slice, an array and a row end as, where one of their elements is lent: the last value behind r in its place.
 use Rattle.std.specs.Prelude.{ℕ, List, Option, slice_set}
 use Rattle.std.specs.Borrow.{Lends, LendsIf, Fml, MutBor, Array, RattleType}
 use Rattle.rolls.specs.declared.spare.Spare.{Ghosts}
@@ -13,6 +13,6 @@ module _ (T : RattleType) (s : MutBor (List T.Denot)) (at : ℕ) where
   abbrev pub lends_place : ℕ → MutBor T.Denot → Fml
   lends_place n r = Lends (Array T n) T s r (slice_set s.now at)
 
-  -- a shipper's account; without one the row stays
+  -- a shipper's account; without one the row stays. g tells the spare item, which is a part of the row's type
   abbrev pub lends_account : Ghosts T.Denot → Option (MutBor T.Denot) → Fml
   lends_account g r = LendsIf (roll.the_row T g) T s r (slice_set s.now at) s.now

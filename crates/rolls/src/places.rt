@@ -12,7 +12,7 @@ fn item_mut<T>(items: &mut [T], at: usize) -> &mut T
     &mut items[at]
 }
 
-// An element of an array.
+// An element of an array. Its proof is written by hand, since the toolchain makes none of such a loan.
 pub(crate) fn place_mut<T, const N: usize>(places: &mut [T; N], at: usize) -> &mut T
     requires { at < length places.old }
     ensures* writes_back { sem 𝓛 (lends_place T.row places.entry at N result) }

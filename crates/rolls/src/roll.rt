@@ -5,11 +5,11 @@ use prices::slot::SHIPPERS;
 use std::alloc::AllocError;
 use std::marker::Model;
 
-// A row is seen as the list of its shippers' accounts. An array with a count, since a short vector is never `Copy`; over
-// any item with a spare one, since the loan of an account gets a proof of a type with a parameter alone.
+// A row is seen as the list of its shippers' accounts. An array with a count, since a short vector is never `Copy`; its
+// item is a parameter, since the toolchain proves a loan out of such a row only where its type has one.
 #[derive(Copy)]
 pub struct Roll<A: Spare = Account> {
-    // how many shippers there are; the accounts after them are blank
+    // how many shippers there are; the places after theirs hold the spare item, which is the blank account
     pub count: usize,
     pub accounts: [A; SHIPPERS],
 }
@@ -30,7 +30,7 @@ impl<A: Spare> Model for Roll<A> {
     ghost inverse_ok = { λ roll sound i. record { count = sound.long i; accounts = sound.rest i } };
 }
 
-// Written out, since the clone of a blank account is known to be blank only where it is a copy.
+// A copy, written out: a derived clone would clone the spare items, and nothing says that their clones are spare.
 impl<A: Spare + Copy> Clone for Roll<A> {
     ghost use Rattle.std.specs.Prelude.{◌≡◌, ⊤};
 

@@ -1,7 +1,7 @@
-// What a row's places hold after those that are taken.
+// What a row's places hold after those of its shippers.
 use accounts::account::Account;
 
-// A kind of item of which one stands in each spare place.
+// An item of a row, with the one that stands in each place that no shipper has.
 pub trait Spare {
     ghost spare: { Self };
 }

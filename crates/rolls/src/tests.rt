@@ -4,7 +4,8 @@ use super::roll::Roll;
 use refusals::Refusal;
 use std::alloc::AllocError;
 
-// Whether an account is lent, and what a row of two and a copy of it made before tell once 30 is written there.
+// Whether an account is lent, what a row of two tells once 30 is written there, and whether a copy made before tells what
+// it did.
 fn written(shipper: usize) -> Result<(bool, [Option<i32>; 3], bool), Refusal> {
     let mut roll = Roll::new(&[
         Carries { older: 1, newer: 2 },
@@ -16,7 +17,7 @@ fn written(shipper: usize) -> Result<(bool, [Option<i32>; 3], bool), Refusal> {
         account.older = 30;
         lent = true;
     }
-    let kept = copy.is_ok_and(|copy| copy.get(1).is_some_and(|account| account.older == 3));
+    let kept = copy.is_ok_and(|copy| (older(&copy, 0), older(&copy, 1)) == (Some(1), Some(3)));
     Ok((
         lent,
         [older(&roll, 0), older(&roll, 1), older(&roll, 2)],

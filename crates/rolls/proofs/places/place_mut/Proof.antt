@@ -8,7 +8,7 @@ use contract.BorrowLft.{◌⊑◌}
 use contract.Monad.{fact, fact_i}
 use contract.Running.{tables}
 use denote.Array.{Array}
-use denote.Builtin.{usize, RefMutOf}
+use denote.Builtin.{usize}
 use denote.Exit.{yes, no}
 use denote.Follow.{follows, follows_then}
 use denote.Laws.{shows}
@@ -52,11 +52,9 @@ module _ (T : RattleType) (n : ℕ) where
   abbrev S : RattleType
   S = ArrayAt R (param 1 N)
 
+  -- nothing is had of the two parameters at the end
   abbrev stayed : Stays (f.ended T N).signature.params (f.ended T N).kept
-  stayed = (
-    stay_dropped (RefMutOf (0 ∷ []) tt (plain (λ _. S)) (λ _. tt)) no,
-    (stay_dropped (plain (λ _. usize)) yes, tt),
-  )
+  stayed = (stay_dropped _ no, (stay_dropped _ yes, tt))
 
 pub place_mut_spec : {M : Type 1} → statement M
 place_mut_spec 𝓤 𝓛 𝓜 𝓡 wired T n L fits =
@@ -71,9 +69,9 @@ place_mut_spec 𝓤 𝓛 𝓜 𝓡 wired T n L fits =
     let lives = κT ⊑ T.lives in let fixed = κN ⊑ [] in let small = n * size (layout T) < 2 ^ 63 in
     let whole = MutRef (named 0) κ (S T n) in
     -- what the two calls ask and give
-    let G = triple_of 𝓛 (h.signature T (N T n)) (h.spec T (N T n) 𝓛 𝓜.mem 𝓡.returns) in
-    let z : G.Ghost = ((κs, qs, bounds, (xs, tt), (vs, tt)), tt) in
-    let H = triple_of 𝓛 (g.signature T) (g.spec T 𝓛 𝓜.mem 𝓡.returns) in
+    let H = triple_of 𝓛 (h.signature T (N T n)) (h.spec T (N T n) 𝓛 𝓜.mem 𝓡.returns) in
+    let z : H.Ghost = ((κs, qs, bounds, (xs, tt), (vs, tt)), tt) in
+    let G = triple_of 𝓛 (g.signature T) (g.spec T 𝓛 𝓜.mem 𝓡.returns) in
     qed 𝓛 (((‵ (flft κ q) ⊛ ‵ (flft κT qT) ⊛ ‵ (flft κN qN) ⊛ ‵ ftrue) ⊛ ‵ (whole.own_val xs vs) ⊛ ‵ (usize.own_val m (vint w64 m ∷ [])) ⊛ ‵ ftrue)
     ∷ (raw (fact 𝓤 lives) ⊛ raw (fact 𝓤 fixed) ⊛ raw (fact 𝓤 small) ⊛ raw (fact 𝓤 (m < length xs.now))) ∷ []) ∵
     move ! (1 ∷ []) $ split3 ! $ heard ! _ (λ alive. heard ! _ (λ known. split ! $ heard ! _ (λ little. heard ! _ (λ within.
@@ -85,8 +83,8 @@ place_mut_spec 𝓤 𝓛 𝓜 𝓡 wired T n L fits =
     nothing ! $ use0 𝓛 (raw (fact 𝓤 small)) (fact_i 𝓤 small (emp 𝓤) little) $ join ! $
     use0 𝓛 (raw (fact 𝓤 fixed)) (fact_i 𝓤 fixed (emp 𝓤) known) $ join ! $
     use0 𝓛 (raw (fact 𝓤 lives)) (fact_i 𝓤 lives (emp 𝓤) alive) $ join ! $
-    move ! (1 ∷ 0 ∷ []) $ use2 𝓛 (raw (G.pre z)) (id⊢ 𝓤 _) $
-    calls_at ! (framed 𝓤 𝓛.H 𝓜 (tables 𝓤 𝓛.H 𝓜 𝓡 𝓡.env)) G
+    move ! (1 ∷ 0 ∷ []) $ use2 𝓛 (raw (H.pre z)) (id⊢ 𝓤 _) $
+    calls_at ! (framed 𝓤 𝓛.H 𝓜 (tables 𝓤 𝓛.H 𝓜 𝓡 𝓡.env)) H
     (h-met.met 𝓤 𝓛 𝓜 𝓡 (code.calls-core::slice::arrays::array+N+T::as_mut_slice 𝓡.env wired) T n L fits) z
     (and_then ! (get ! refl) (no_more !)) (λ v.
     use1 𝓛 (later (some (λ (s : MutBor (List T.Denot)).
@@ -99,15 +97,15 @@ place_mut_spec 𝓤 𝓛 𝓜 𝓡 wired T n L fits =
     lands_as ! (ap only e) refl (tt, (tt, (record { fits = is.0.1.0 }, tt))) $
     rewrite ! 0 (λ (us : List Val). ‵ ((MutSlice (named 0) κ (R T n)).own_val s us)) e refl $
     -- [the slice; the array follows the slice; the tokens]
-    let y : H.Ghost = (((κ, (κT, tt)), (q, (qT, tt)), bounds, (s, (m, tt)), (mut_slice_vals s, (vint w64 m ∷ [], tt))), tt) in
+    let y : G.Ghost = (((κ, (κT, tt)), (q, (qT, tt)), bounds, (s, (m, tt)), (mut_slice_vals s, (vint w64 m ∷ [], tt))), tt) in
     let inside : m < length s.now = subst (λ (l : List T.Denot). m < length l) (sym same) within in
     move ! (2 ∷ []) $ split3 ! $ move ! (2 ∷ []) $ split ! $ move ! (1 ∷ []) $ drop ! $
     nothing ! $ owned ! usize _ (uint_Makes 𝓛 w64) m _ (refl, are.1.0.1) $ join ! $ move ! (4 ∷ 0 ∷ []) $ join ! $
     nothing ! $ move ! (4 ∷ 0 ∷ []) $ join ! $ move ! (3 ∷ 0 ∷ []) $ join ! $ join ! $
     use0 𝓛 (raw (fact 𝓤 (m < length s.now))) (fact_i 𝓤 (m < length s.now) (emp 𝓤) inside) $
     use0 𝓛 (raw (fact 𝓤 lives)) (fact_i 𝓤 lives (emp 𝓤) alive) $ join ! $
-    move ! (1 ∷ 0 ∷ []) $ use2 𝓛 (raw (H.pre y)) (id⊢ 𝓤 _) $
-    calls_at ! (framed 𝓤 𝓛.H 𝓜 (tables 𝓤 𝓛.H 𝓜 𝓡 𝓡.env)) H
+    move ! (1 ∷ 0 ∷ []) $ use2 𝓛 (raw (G.pre y)) (id⊢ 𝓤 _) $
+    calls_at ! (framed 𝓤 𝓛.H 𝓜 (tables 𝓤 𝓛.H 𝓜 𝓡 𝓡.env)) G
     (g-met.met 𝓤 𝓛 𝓜 𝓡 (code.calls-rolls::places::item_mut 𝓡.env wired) T L) y
     (and_then ! (get ! refl) (and_then ! (get ! refl) (no_more !))) (λ w.
     use1 𝓛 (later (some (λ (r : MutBor T.Denot).
