@@ -13,6 +13,10 @@ module _ (T : RattleType) (s : MutBor (List T.Denot)) (at : ℕ) where
   abbrev pub lends_place : ℕ → MutBor T.Denot → Fml
   lends_place n r = Lends (Array T n) T s r (slice_set s.now at)
 
-  -- a shipper's account; without one the row stays. g tells the spare item, which is a part of the row's type
+  -- a place of a row that is told; g tells the spare item, which is a part of the row's type
+  abbrev pub lends_told : Ghosts T.Denot → MutBor T.Denot → Fml
+  lends_told g r = Lends (roll.the_row T g) T s r (slice_set s.now at)
+
+  -- a shipper's account; without one the row stays
   abbrev pub lends_account : Ghosts T.Denot → Option (MutBor T.Denot) → Fml
   lends_account g r = LendsIf (roll.the_row T g) T s r (slice_set s.now at) s.now

@@ -2,7 +2,7 @@
 ghost use Rattle.std.specs.Prelude.{◌≡◌, ◌<◌, ◌≤◌, ◌↔◌, length, IsSome, IfSome, slice_index_or, slice_set};
 ghost use Rattle.std.specs.Borrow.{sem};
 ghost use Rattle.rolls.specs.Rolls.{lacking};
-ghost use Rattle.rolls.specs.Lending.{lends_account};
+ghost use Rattle.rolls.specs.Lending.{lends_told, lends_account};
 
 use super::places::place_mut;
 use super::roll::Roll;
@@ -46,6 +46,15 @@ impl Roll {
 }
 
 impl<A: Spare> Roll<A> {
+    // The account of a shipper that the row has, to be changed.
+    fn told_mut(&mut self, shipper: usize) -> &mut A
+        requires { shipper < length self.old }
+        ensures* writes_back { sem 𝓛 (lends_told A.row self.entry shipper A.Spare result) }
+        ensures value { result.now ≡ slice_index_or self.old shipper result.now }
+    {
+        place_mut(&mut self.accounts, shipper)
+    }
+
     // A shipper's account, to be changed.
     pub fn get_mut(&mut self, shipper: usize) -> Option<&mut A>
         ensures* writes_back { sem 𝓛 (lends_account A.row self.entry shipper A.Spare result) }
@@ -55,6 +64,6 @@ impl<A: Spare> Roll<A> {
         if shipper >= self.count {
             return None;
         }
-        Some(place_mut(&mut self.accounts, shipper))
+        Some(self.told_mut(shipper))
     }
 }
